@@ -37,6 +37,7 @@ ROWS = [
     ("a request is submitted", "ask_fault", "SubmitGives", "Submits", "", "submit_request", "submit_keeps", "", "submit_ties"),
     ("an answer is taken", "", "TakeGives", "TakesAnswerOf TakesEarlier", "", "take", "take_keeps", "", "take_ties"),
     ("a copy is opened", "copy_fault", "OpenGives", "Opens", "", "open_copy", "open_keeps", "", "open_ties"),
+    ("a copy begins to move", "move_fault", "OpenMoveGives", "Opens", "", "open_move", "open_move_keeps", "", "open_move_ties"),
     ("a copy is closed", "", "closed", "", "", "close_copy", "close_keeps", "", "close_ties"),
     ("an order to the shelf", "", "ArrangesSession", "", "", "arrange", "order_keeps", "", "orders_tie"),
 ]

@@ -1,2 +1,5 @@
+pub mod Opening
+pub mod MoveCloses
 pub mod CloseTies
 pub mod OpenTies
+pub mod OpenMoveTies

@@ -40,7 +40,6 @@ use Rattle.lvm_tie.specs.Seen.{IsRequestAt, IsStepAt, Sees, SeesHand, SeesStep, 
 use Rattle.lvm_tie.specs.Tied.{HoldsRecords, IsOrderly, IsTied}
 use Rattle.lvm_tie.specs.Near.{IsNear, IsRunning, NearTies}
 use Rattle.lvm_tie.proofs.SeenLemmas.Beside.{open_beside}
-use Rattle.lvm_session.proofs.MovesLemmas.{unmoving}
 
 -- a copy that the state as a whole makes end runs
 pub ends_running : (core : Core) (how : CopyEnd) → copy_ends core ≡ Some how → IsRunning core
@@ -140,7 +139,6 @@ module _ (past : List Fact) (device : Device) (core : Core) (how : CopyEnd) (nea
     open_copy = none;
     step_write = write_out;
     beside = open_beside core c v.beside near.sees.beside its.is_open;
-    brings = unmoving core c its.is_open near.sees.brings;
   }
 
   carries_out : (g : Flight) (o : Owner) → CarriesStep core v g o → CarriesStep core_out v g o
@@ -232,7 +230,6 @@ module _ (past : List Fact) (device : Device) (core : Core) (how : CopyEnd) (nea
     open_copy = none;
     step_write = write_in out;
     beside = open_beside core c v.beside near.sees.beside its.is_open;
-    brings = unmoving core c its.is_open near.sees.brings;
   }
 
   -- it leaves
@@ -310,7 +307,6 @@ module _ (past : List Fact) (device : Device) (core : Core) (how : CopyEnd) (nea
       open_copy = none;
       step_write = write_in out;
       beside = open_beside core c v.beside near.sees.beside its.is_open;
-      brings = unmoving core c its.is_open near.sees.brings;
     }
 
   pub ended_ties : IsOrderly (state device (with_end core (Some how))) near.write → IsTied past (state device (with_end core (Some how)))

@@ -29,6 +29,8 @@ use Rattle.lvm_rec.proofs.SlotsLemmas.Next.{slot_for_same}
 use Rattle.lvm_path.specs.declared.ask.Ask.{Ask}
 use Rattle.lvm_session.specs.declared.answers.AskFault.{AskFault}
 use Rattle.lvm_session.specs.declared.answers.CopyFault.{CopyFault}
+use Rattle.lvm_session.specs.declared.answers.OpenFault.{OpenFault}
+use Rattle.lvm_session.specs.declared.answers.OpenFault.TheVariants as denial
 use Rattle.lvm_session.specs.declared.answers.Taken.{Taken}
 use Rattle.lvm_session.specs.declared.answers.Taken.TheVariants as answer
 use Rattle.lvm_session.specs.declared.answers.Turned.{Turned}
@@ -45,7 +47,7 @@ use Rattle.lvm_session.specs.declared.flown.Owner.TheVariants as owner
 use Rattle.lvm_session.specs.declared.open.Open.{Open}
 use Rattle.lvm_session.specs.State.{Core, State, is_there, state}
 use Rattle.lvm_session.specs.Bringing.{after_copy_end, copy_ends, is_whole, with_end}
-use Rattle.lvm_session.specs.Calls.{OpenGives, Opens, SubmitGives, TakeAt, TakeGives, TakesLanded, ask_fault, copy_fault, is_asked, submitted}
+use Rattle.lvm_session.specs.Calls.{OpenGives, OpenMoveGives, Opens, OpensMove, move_fault, SubmitGives, TakeAt, TakeGives, TakesLanded, ask_fault, copy_fault, is_asked, submitted}
 use Rattle.lvm_session.specs.Dark.{all_dark, is_cut}
 use Rattle.lvm_session.specs.Ends.{Ends, EndsAs, FlipsIf, CopyStepsOn, Learns, NoteLeaves, StatusLearns, StepLearns, StepLeaves, with_copy, with_return, without_step}
 use Rattle.lvm_session.specs.Events.{PutsInFlight, StartsStatus}
@@ -349,11 +351,20 @@ module _ (s : State) (new : Core) (spares : SparesDescriptors s) where
       by None it = same_spares (ap still it.1.is)
       by (Some why) it = same_spares (ap still it.1)
 
+  opens_move : (counts : Counts) (lv lp number : ℕ) (to : Pp) (answered : Result (Unit {0}) OpenFault) → OpenMoveGives counts s.core new lv lp number to answered → SparesDescriptors (state s.device new)
+  opens_move counts lv lp number to answered = by (move_fault s.core lv lp number to)
+    where
+      by : (m : Option OpenFault) → MatchOption m (((answered ≡ Ok tt) × OpensMove counts s.core new lv lp number to) ⊎ ((answered ≡ Err denial.Memory) × (new ≡ s.core))) (λ (why : OpenFault). (answered ≡ Err why) × (new ≡ s.core)) → SparesDescriptors (state s.device new)
+      by None (inl it) = same_spares (ap still it.1.is)
+      by None (inr it) = same_spares (ap still it.1)
+      by (Some why) it = same_spares (ap still it.1)
+
 pub calls_spare_descriptors : CallsSpareDescriptors
 calls_spare_descriptors = record {
   submit = λ client ask bytes answered s new gives spares. submits s new spares client ask bytes answered gives;
   take = λ client id answered s new gives spares. takes s new spares client id answered gives;
   open_copy = λ counts lv lp number answered s new gives spares. opens s new spares counts lv lp number answered gives;
+  open_move = λ counts lv lp number to answered s new gives spares. opens_move s new spares counts lv lp number to answered gives;
   close_copy = λ s new closes spares. same_spares s new spares (ap still closes.is);
   arrange = λ old new what done outside order spares. order_spares old new outside spares what done order;
 }

@@ -1,5 +1,5 @@
 -- What a session leaves on its disks stays behind each moment after its own.
-use Rattle.std.proofs.Common.{◌≡◌, inl, inr, ⊎_elim, ℕ, ◌+◌, ◌-◌, ◌^◌, ◌<◌, ◌≤◌, Bool, true, false, ◌&&◌, not, if◌then◌else◌, List, [], ◌∷◌, ◌++◌, length, Option, Some, None, refl, sym, ap, subst, ◌∙◌, arith}
+use Rattle.std.proofs.Common.{◌≡◌, inl, inr, ⊎_elim, ℕ, ◌+◌, ◌-◌, ◌^◌, ◌<◌, ◌≤◌, Bool, true, false, ◌&&◌, not, if◌then◌else◌, List, [], ◌∷◌, ◌++◌, length, Option, Some, None, refl, sym, ap, subst, ◌∙◌, arith, ◌⊎◌}
 use Rattle.std.specs.Prelude.{IfSome, MatchOption, Result, Ok, Err, position, slice_get, ◌≢◌}
 use Rattle.lvm_num.specs.declared.place.Pp.{Pp}
 use Rattle.lvm_num.specs.declared.record.Kind.TheVariants as kind
@@ -42,6 +42,8 @@ use Rattle.lvm_path.specs.Asks.{at_of}
 use Rattle.lvm_path.specs.Targets.{is_begun}
 use Rattle.lvm_session.specs.declared.answers.AskFault.{AskFault}
 use Rattle.lvm_session.specs.declared.answers.CopyFault.{CopyFault}
+use Rattle.lvm_session.specs.declared.answers.OpenFault.{OpenFault}
+use Rattle.lvm_session.specs.declared.answers.OpenFault.TheVariants as denial
 use Rattle.lvm_session.specs.declared.answers.Taken.{Taken}
 use Rattle.lvm_session.specs.declared.answers.Taken.TheVariants as answer
 use Rattle.lvm_session.specs.declared.answers.Turned.{Turned}
@@ -57,7 +59,7 @@ use Rattle.lvm_session.specs.declared.open.Open.{Open}
 use Rattle.lvm_session.specs.declared.open.Power.TheVariants as power
 use Rattle.lvm_session.specs.State.{Core, State}
 use Rattle.lvm_session.specs.Bringing.{is_whole}
-use Rattle.lvm_session.specs.Calls.{OpenGives, Opens, SubmitGives, TakeAt, TakeGives, TakesLanded, ask_fault, copy_fault, is_asked, submitted}
+use Rattle.lvm_session.specs.Calls.{OpenGives, OpenMoveGives, Opens, OpensMove, move_fault, SubmitGives, TakeAt, TakeGives, TakesLanded, ask_fault, copy_fault, is_asked, submitted}
 use Rattle.lvm_session.specs.Dark.{all_dark, is_cut, landings}
 use Rattle.lvm_session.specs.Enabled.{target_next}
 use Rattle.lvm_session.specs.Ends.{Ends, EndsAs, CopyStepsOn, Learns, NoteLeaves, StepLearns, StepLeaves}
@@ -470,6 +472,14 @@ module _ (old new : Core) where
       by None it = record { status = ap (λ (c : Core). c.status) it.1.is; later = λ moment was. subst (λ (fs : List Fact). IsLater fs moment) (sym (ap (λ (c : Core). c.history.facts) it.1.is)) was }
       by (Some why) it = same_of it.1
 
+  move_stays : (counts : Counts) (lv lp number : ℕ) (to : Pp) (answered : Result (Unit {0}) OpenFault) → OpenMoveGives counts old new lv lp number to answered → StaysOf old new
+  move_stays counts lv lp number to answered = by (move_fault old lv lp number to)
+    where
+      by : (m : Option OpenFault) → MatchOption m (((answered ≡ Ok tt) × OpensMove counts old new lv lp number to) ⊎ ((answered ≡ Err denial.Memory) × (new ≡ old))) (λ (why : OpenFault). (answered ≡ Err why) × (new ≡ old)) → StaysOf old new
+      by None (inl it) = record { status = ap (λ (c : Core). c.status) it.1.is; later = λ moment was. subst (λ (fs : List Fact). IsLater fs moment) (sym (ap (λ (c : Core). c.history.facts) it.1.is)) was }
+      by None (inr it) = same_of it.1
+      by (Some why) it = same_of it.1
+
 arrange_stays : (old new : State) (what : Arrange) (done : Bool) → ArrangesSession old new what done → StaysOf old.core new.core
 arrange_stays old new what done it = by (done && is_cut what) it.is
   where
@@ -482,6 +492,7 @@ calls_stay = record {
   submit = λ client ask bytes answered old new gives. submit_stays old new client ask bytes answered gives;
   take = λ client id answered old new gives. take_stays old new client id answered gives;
   open_copy = λ counts lv lp number answered old new gives. open_stays old new counts lv lp number answered gives;
+  open_move = λ counts lv lp number to answered old new gives. move_stays old new counts lv lp number to answered gives;
   close_copy = λ old new closes. record { status = ap (λ (c : Core). c.status) closes.is; later = λ moment was. subst (λ (fs : List Fact). IsLater fs moment) (sym (ap (λ (c : Core). c.history.facts) closes.is)) was };
   arrange = arrange_stays;
 }

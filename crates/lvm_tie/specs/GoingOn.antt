@@ -1,5 +1,6 @@
 -- A good session goes on: over a turn, and over the calls of its clients.
 use Rattle.std.specs.Prelude.{◌≡◌, ℕ, Bool, List, Option, Result}
+use Rattle.lvm_num.specs.declared.place.Pp.{Pp}
 use Rattle.lvm_num.specs.Status.{IsValidStatus}
 use Rattle.lvm_disk.specs.declared.shelf.Arrange.{Arrange}
 use Rattle.lvm_disk.specs.Counts.{Counts}
@@ -10,9 +11,10 @@ use Rattle.lvm_session.specs.declared.open.Power.TheVariants as power
 use Rattle.lvm_session.specs.State.{Core, State, moment_of, state}
 use Rattle.lvm_session.specs.declared.answers.AskFault.{AskFault}
 use Rattle.lvm_session.specs.declared.answers.CopyFault.{CopyFault}
+use Rattle.lvm_session.specs.declared.answers.OpenFault.{OpenFault}
 use Rattle.lvm_session.specs.declared.answers.Taken.{Taken}
 use Rattle.lvm_session.specs.declared.answers.Turned.{Turned}
-use Rattle.lvm_session.specs.Calls.{Closes, OpenGives, SubmitGives, TakeGives}
+use Rattle.lvm_session.specs.Calls.{Closes, OpenGives, OpenMoveGives, SubmitGives, TakeGives}
 use Rattle.lvm_session.specs.Turns.{ArrangesSession, TurnMakes}
 use Rattle.lvm_session.specs.Asking.{IsAsking}
 use Rattle.lvm_session.specs.Sound.{IsSound}
@@ -44,6 +46,11 @@ AnswerGoesOn = (s : State) (new : Core) (client id : ℕ) (answer : Taken)
 abbrev pub OpenGoesOn : Type 0
 OpenGoesOn = (run : ℕ) (s : State) (new : Core) (counts : Counts) (lv lp number : ℕ) (answer : Result (Unit {0}) CopyFault)
     → IsSound (state s.device new) → OpenGives counts s.core new lv lp number answer → SessionGoesOn run s (state s.device new)
+
+-- so it is over a copy that begins to move, or doesn't;
+abbrev pub OpenMoveGoesOn : Type 0
+OpenMoveGoesOn = (run : ℕ) (s : State) (new : Core) (counts : Counts) (lv lp number : ℕ) (to : Pp) (answer : Result (Unit {0}) OpenFault)
+    → IsSound (state s.device new) → OpenMoveGives counts s.core new lv lp number to answer → SessionGoesOn run s (state s.device new)
 
 abbrev pub CloseGoesOn : Type 0
 CloseGoesOn = (run : ℕ) (s : State) (new : Core) → IsSound (state s.device new) → Closes s.core new → SessionGoesOn run s (state s.device new)

@@ -18,9 +18,10 @@ use Rattle.lvm_session.specs.State.{Core, State, state}
 use Rattle.lvm_session.specs.Judging.{copies_in, is_waiting}
 use Rattle.lvm_session.specs.declared.answers.AskFault.{AskFault}
 use Rattle.lvm_session.specs.declared.answers.CopyFault.{CopyFault}
+use Rattle.lvm_session.specs.declared.answers.OpenFault.{OpenFault}
 use Rattle.lvm_session.specs.declared.answers.Taken.{Taken as Answer}
 use Rattle.lvm_session.specs.declared.answers.Turned.{Turned}
-use Rattle.lvm_session.specs.Calls.{Closes, OpenGives, SubmitGives, TakeGives}
+use Rattle.lvm_session.specs.Calls.{Closes, OpenGives, OpenMoveGives, SubmitGives, TakeGives}
 use Rattle.lvm_session.specs.Marks.{is_among}
 use Rattle.lvm_session.specs.Turns.{ArrangesSession, TurnMakes}
 use Rattle.lvm_disk.specs.Counts.{Counts}
@@ -85,5 +86,6 @@ pub record CallsKeepCauses : Type 0 where
   pub submit : (client : ℕ) (ask : Ask) (bytes : Option (List ℕ)) (answer : Result ℕ AskFault) → KeepsCauses (λ s new. SubmitGives s.core new client ask bytes answer)
   pub take : (client id : ℕ) (answer : Answer) → KeepsCauses (λ s new. TakeGives s.core new client id answer)
   pub open_copy : (counts : Counts) (lv lp number : ℕ) (answer : Result (Unit {0}) CopyFault) → KeepsCauses (λ s new. OpenGives counts s.core new lv lp number answer)
+  pub open_move : (counts : Counts) (lv lp number : ℕ) (to : Pp) (answer : Result (Unit {0}) OpenFault) → KeepsCauses (λ s new. OpenMoveGives counts s.core new lv lp number to answer)
   pub close_copy : KeepsCauses (λ s new. Closes s.core new)
   pub arrange : (first : List Fact) (old new : State) (what : Arrange) (done : Bool) → ArrangesSession old new what done → HasCausesSince first old → HasCausesSince first new

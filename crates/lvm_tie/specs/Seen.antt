@@ -27,7 +27,7 @@ use Rattle.lvm_session.specs.declared.bringing.OpenCopy.{OpenCopy}
 use Rattle.lvm_session.specs.declared.bringing.Step.{Step}
 use Rattle.lvm_session.specs.declared.bringing.Step.TheVariants as step
 use Rattle.lvm_session.specs.State.{Core, is_there}
-use Rattle.lvm_session.specs.Judging.{is_moving, is_running, place_of}
+use Rattle.lvm_session.specs.Judging.{is_running, place_of}
 use Rattle.lvm_session.specs.Bringing.{groups_of, has_row, block_at}
 use Rattle.lvm_invariant.specs.State.{Stage, Todo, Flying, Well, Badly, ModelPhase, Held, WantEntry, Ready, Going, Landed, Groups, Queued, Beside, ModelCopy, StepWrite, ModelState, Marks, has_landed}
 use Rattle.lvm_num.specs.Descriptor.{is_pp}
@@ -215,5 +215,3 @@ pub record Sees (past : List Fact) (core : Core) (v : ModelState) : Type 0 where
   pub open_copy : SeesCopy (groups_of core) core.copy v.open_copy
   pub step_write : v.step_write ≡ step_write_in core.copy
   pub beside : v.beside ≡ beside_of core
-  -- no copy is open that moves
-  pub brings : is_moving core ≡ false

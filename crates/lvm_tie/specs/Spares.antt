@@ -1,5 +1,6 @@
 -- Where the next descriptors of a session go: on each member that isn't missing to the slot that doesn't hold the newest one.
 use Rattle.std.specs.Prelude.{◌≡◌, IfSome, ℕ, Bool, true, List, Option, Result, IsTrue}
+use Rattle.lvm_num.specs.declared.place.Pp.{Pp}
 use Rattle.lvm_num.specs.declared.record.Kind.TheVariants as kind
 use Rattle.lvm_num.specs.Buffer.{Sector}
 use Rattle.lvm_num.specs.DescriptorBytes.{descriptor_of}
@@ -14,9 +15,10 @@ use Rattle.lvm_path.specs.declared.ask.Ask.{Ask}
 use Rattle.lvm_session.specs.State.{Core, State, is_there, state}
 use Rattle.lvm_session.specs.declared.answers.AskFault.{AskFault}
 use Rattle.lvm_session.specs.declared.answers.CopyFault.{CopyFault}
+use Rattle.lvm_session.specs.declared.answers.OpenFault.{OpenFault}
 use Rattle.lvm_session.specs.declared.answers.Taken.{Taken}
 use Rattle.lvm_session.specs.declared.answers.Turned.{Turned}
-use Rattle.lvm_session.specs.Calls.{Closes, OpenGives, SubmitGives, TakeGives}
+use Rattle.lvm_session.specs.Calls.{Closes, OpenGives, OpenMoveGives, SubmitGives, TakeGives}
 use Rattle.lvm_session.specs.Causes.{is_over}
 use Rattle.lvm_session.specs.Turns.{ArrangesSession, TurnMakes}
 use Rattle.lvm_session.specs.Sound.{IsSound}
@@ -58,6 +60,8 @@ pub record CallsSpareDescriptors : Type 0 where
   pub take : (client id : ℕ) (answer : Taken) → GoesOnSparing (λ s new. TakeGives s.core new client id answer)
   pub open_copy : (counts : Counts) (lv lp number : ℕ) (answer : Result (Unit {0}) CopyFault)
       → GoesOnSparing (λ s new. OpenGives counts s.core new lv lp number answer)
+  pub open_move : (counts : Counts) (lv lp number : ℕ) (to : Pp) (answer : Result (Unit {0}) OpenFault)
+      → GoesOnSparing (λ s new. OpenMoveGives counts s.core new lv lp number to answer)
   pub close_copy : GoesOnSparing (λ s new. Closes s.core new)
   pub arrange : (old new : State) (what : Arrange) (done : Bool) → LeavesDescriptors old.device → ArrangesSession old new what done
       → SparesDescriptors old → SparesDescriptors new

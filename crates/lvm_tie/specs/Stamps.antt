@@ -1,5 +1,6 @@
 -- What a session leaves on its disks stays behind each moment after its own, and so does its history.
 use Rattle.std.specs.Prelude.{◌≡◌, ◌≢◌, IfSome, ℕ, ◌^◌, ◌<◌, Bool, List, Option, Result, Some}
+use Rattle.lvm_num.specs.declared.place.Pp.{Pp}
 use Rattle.lvm_num.specs.declared.record.Stamp.{Stamp}
 use Rattle.lvm_num.specs.declared.status.Status.{Status}
 use Rattle.lvm_num.specs.Status.{IsValidStatus}
@@ -13,10 +14,11 @@ use Rattle.lvm_path.specs.declared.ask.Ask.{Ask}
 use Rattle.lvm_session.specs.State.{Core, State}
 use Rattle.lvm_session.specs.declared.answers.AskFault.{AskFault}
 use Rattle.lvm_session.specs.declared.answers.CopyFault.{CopyFault}
+use Rattle.lvm_session.specs.declared.answers.OpenFault.{OpenFault}
 use Rattle.lvm_session.specs.declared.answers.Taken.{Taken}
 use Rattle.lvm_session.specs.declared.answers.Turned.{Turned}
 use Rattle.lvm_session.specs.declared.open.Power.TheVariants as power
-use Rattle.lvm_session.specs.Calls.{Closes, OpenGives, SubmitGives, TakeGives}
+use Rattle.lvm_session.specs.Calls.{Closes, OpenGives, OpenMoveGives, SubmitGives, TakeGives}
 use Rattle.lvm_session.specs.Turns.{ArrangesSession, TurnMakes}
 use Rattle.lvm_session.specs.Sound.{IsSound}
 
@@ -67,5 +69,7 @@ pub record CallsStay : Type 0 where
   pub take : (client id : ℕ) (answer : Taken) (old new : Core) → TakeGives old new client id answer → StaysOf old new
   pub open_copy : (counts : Counts) (lv lp number : ℕ) (answer : Result (Unit {0}) CopyFault) (old new : Core)
       → OpenGives counts old new lv lp number answer → StaysOf old new
+  pub open_move : (counts : Counts) (lv lp number : ℕ) (to : Pp) (answer : Result (Unit {0}) OpenFault) (old new : Core)
+      → OpenMoveGives counts old new lv lp number to answer → StaysOf old new
   pub close_copy : (old new : Core) → Closes old new → StaysOf old new
   pub arrange : (old new : State) (what : Arrange) (done : Bool) → ArrangesSession old new what done → StaysOf old.core new.core

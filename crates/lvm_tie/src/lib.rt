@@ -27,7 +27,7 @@ mod turn_laws;
 mod writes_laws;
 
 pub use begins_laws::{begins_good, begins_tied, rest_spares, rest_ties, tied_rests};
-pub use calls_laws::{close_ties, open_ties};
+pub use calls_laws::{close_ties, open_move_ties, open_ties};
 pub use causes_laws::{
     beginning_has_causes, calls_keep_causes, causes_are_seen, faults_are_there, turn_keeps_causes,
 };

@@ -195,7 +195,6 @@ module _ (past : List Fact) (s : State) (media : Media) (sound : IsSound s) (pow
     open_copy = subst (λ (o : Option OpenCopy). SeesCopy (groups_of core) o v.open_copy) (sym rests.copy) idle_first.no_copy;
     step_write = idle_first.no_step ∙ sym (ap (λ (o : Option OpenCopy). step_write_in o) rests.copy);
     beside = seen_first.beside ∙ sym (closed_beside core rests.copy);
-    brings = ap (λ (m : Option OpenCopy). option_map_or (λ (c : OpenCopy). c.moves) m false) rests.copy;
   }
 
   none_carried : (rows : List Flown) (fs : List Flight) → rows ≡ [] → CarryTheirs core v fs rows

@@ -14,12 +14,12 @@ use Rattle.lvm_session.specs.Judging.{is_running}
 use Rattle.lvm_session.specs.Bringing.{groups_of, has_row, is_out, is_whole}
 use Rattle.lvm_session.specs.Calls.{closed, copy_state, state_at_end, state_of_copy}
 use Rattle.lvm_keeps.proofs.StateLemmas.{state_brought}
-use Rattle.lvm_session.proofs.MovesLemmas.{unmoving}
-use Rattle.lvm_tie.proofs.SeenLemmas.Beside.{unmoving_beside}
+use Rattle.lvm_tie.proofs.SeenLemmas.Beside.{closed_beside, none_beside as stays_beside}
+use Rattle.lvm_tie.proofs.CallsLemmas.MoveCloses.{move_closes}
 use Rattle.lvm_session.specs.Sound.{IsSound}
 use Rattle.lvm_invariant.specs.State.{ModelState}
 use Rattle.lvm_tie.specs.Out.{CarriesStep, CarryTheirs}
-use Rattle.lvm_tie.specs.Seen.{IsRequestAt, IsStepAt, Sees, SeesCopy, SeesRunning, step_write_in}
+use Rattle.lvm_tie.specs.Seen.{IsRequestAt, IsStepAt, Sees, SeesCopy, SeesRunning, step_write_in, beside_of}
 use Rattle.lvm_tie.specs.Tied.{IsTied}
 use Rattle.lvm_tie.proofs.TiedLemmas.Orderly.{orderly_same}
 use Rattle.lvm_tie.specs.Calls.{CloseTies}
@@ -44,7 +44,8 @@ ended_of core ended c is stays = has_ended c (λ cursor h. ended cursor (ap (λ 
 no_row : (core : Core) (c : OpenCopy) → IsEnded c → has_row core c ≡ false
 no_row core c ended = (λ t. ended.still t || (ended.over t && not (is_whole core c)))
 
-module _ (past : List Fact) (s : State) (tied : IsTied past s) (ended : (cursor : ℕ) → copy_state s.core ≡ copy.Running cursor → ⊥) (sound : IsSound (state s.device (closed s.core))) where
+module _ (past : List Fact) (s : State) (tied : IsTied past s) (ended : (cursor : ℕ) → copy_state s.core ≡ copy.Running cursor → ⊥) (sound : IsSound (state s.device (closed s.core)))
+    (stays : (c : OpenCopy) → s.core.copy ≡ Some c → c.moves ≡ false) where
   abbrev core : Core
   core = s.core
 
@@ -56,14 +57,21 @@ module _ (past : List Fact) (s : State) (tied : IsTied past s) (ended : (cursor 
     where
       by : (m : Option OpenCopy) → core.copy ≡ m → SeesCopy (groups_of core) m v.open_copy → v.open_copy ≡ None
       by None is sees = sees
-      by (Some c) is sees = subst (λ b. SeesRunning b (groups_of core) c v.open_copy) (ended_of core ended c is (unmoving core c is tied.sees.brings)).over sees
+      by (Some c) is sees = subst (λ b. SeesRunning b (groups_of core) c v.open_copy) (ended_of core ended c is (stays c is)).over sees
 
   no_write : v.step_write ≡ None
   no_write = tied.sees.step_write ∙ by core.copy refl
     where
       by : (m : Option OpenCopy) → core.copy ≡ m → step_write_in m ≡ None
       by None is = refl
-      by (Some c) is = step_none c c.step (ended_of core ended c is (unmoving core c is tied.sees.brings)).still
+      by (Some c) is = step_none c c.step (ended_of core ended c is (stays c is)).still
+
+  none_beside : beside_of core ≡ None
+  none_beside = by core.copy refl
+    where
+      by : (m : Option OpenCopy) → core.copy ≡ m → beside_of core ≡ None
+      by None is = closed_beside core is
+      by (Some c) is = stays_beside core c (beside_of core) refl is (stays c is)
 
   sees : Sees past (closed core) v
   sees = record {
@@ -72,7 +80,7 @@ module _ (past : List Fact) (s : State) (tied : IsTied past s) (ended : (cursor 
       a_step = λ c is. absurd (cc is);
       only = λ j q at. ⊎_elim
           (λ (r : IsRequestAt core j). inl r)
-          (λ (r : IsStepAt core j). absurd (let e : true ≡ false = sym r.row ∙ no_row core r.copy (ended_of core ended r.copy r.is_open (unmoving core r.copy r.is_open tied.sees.brings)) in cc))
+          (λ (r : IsStepAt core j). absurd (let e : true ≡ false = sym r.row ∙ no_row core r.copy (ended_of core ended r.copy r.is_open (stays r.copy r.is_open)) in cc))
           (tied.sees.queue.only j q at);
       names = tied.sees.queue.names;
     };
@@ -81,8 +89,7 @@ module _ (past : List Fact) (s : State) (tied : IsTied past s) (ended : (cursor 
     notes = tied.sees.notes;
     open_copy = not_open;
     step_write = no_write;
-    beside = tied.sees.beside ∙ unmoving_beside core tied.sees.brings;
-    brings = refl;
+    beside = tied.sees.beside ∙ none_beside;
   }
 
   carry_none : (fs : List Flight) (rows : List Flown) → CarryTheirs (closed core) v fs rows
@@ -115,5 +122,15 @@ module _ (past : List Fact) (s : State) (tied : IsTied past s) (ended : (cursor 
   }
 
 pub close_ties : CloseTies
-close_ties past s new tied sound closes =
-    subst (λ (c : Core). IsTied past (state s.device c)) (sym closes.is) (closed_ties past s tied closes.ended (subst (λ (c : Core). IsSound (state s.device c)) closes.is sound))
+close_ties past s new tied sound closes = subst (λ (c : Core). IsTied past (state s.device c)) (sym closes.is) (by s.core.copy refl)
+  where
+    is_sound : IsSound (state s.device (closed s.core))
+    is_sound = subst (λ (c : Core). IsSound (state s.device c)) closes.is sound
+
+    of : (c : OpenCopy) → s.core.copy ≡ Some c → (b : Bool) → c.moves ≡ b → IsTied past (state s.device (closed s.core))
+    of c is false stays = closed_ties past s tied closes.ended is_sound (λ d at. ap (λ (x : OpenCopy). x.moves) (let e : Some d ≡ Some c = sym at ∙ is in let same : d ≡ c = cc in same) ∙ stays)
+    of c is true moves = move_closes past s tied closes.ended is_sound c is moves
+
+    by : (m : Option OpenCopy) → s.core.copy ≡ m → IsTied past (state s.device (closed s.core))
+    by None none = closed_ties past s tied closes.ended is_sound (λ d at. absurd (let e : None ≡ Some d = sym none ∙ at in cc))
+    by (Some c) is = of c is c.moves refl

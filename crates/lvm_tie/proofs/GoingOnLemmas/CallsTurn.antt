@@ -1,5 +1,5 @@
 -- A good session goes on over the calls of its clients.
-use Rattle.std.proofs.Common.{◌≡◌, ℕ, List, Option, Some, None, Result, Ok, Err, refl, sym, ap, subst, ◌∙◌}
+use Rattle.std.proofs.Common.{◌≡◌, ℕ, List, Option, Some, None, Result, Ok, Err, refl, sym, ap, subst, ◌∙◌, ◌⊎◌, inl, inr}
 use Rattle.std.specs.Prelude.{MatchOption, position}
 use Rattle.lvm_vol.specs.declared.entry.Outcome.{Outcome}
 use Rattle.lvm_vol.specs.declared.entry.Vol.TheVariants.{Lv}
@@ -14,16 +14,19 @@ use Rattle.lvm_session.specs.State.{Core, state}
 use Rattle.lvm_session.specs.declared.answers.AskFault.{AskFault}
 use Rattle.lvm_session.specs.declared.answers.AskFault.TheVariants as fault
 use Rattle.lvm_session.specs.declared.answers.CopyFault.{CopyFault}
+use Rattle.lvm_session.specs.declared.answers.OpenFault.{OpenFault}
+use Rattle.lvm_session.specs.declared.answers.OpenFault.TheVariants as denial
 use Rattle.lvm_session.specs.declared.answers.Taken.{Taken}
 use Rattle.lvm_session.specs.declared.answers.Taken.TheVariants as answered
-use Rattle.lvm_session.specs.Calls.{submitted, Opens, TakeAt, TakesLanded, TakeGives, ask_fault, copy_fault, fault_by, fault_on, is_asked}
+use Rattle.lvm_session.specs.Calls.{submitted, Opens, TakeAt, TakesLanded, TakeGives, ask_fault, copy_fault, fault_by, fault_on, is_asked, OpensMove, move_fault}
 use Rattle.lvm_tie.proofs.LandsLemmas.TakeTies.{take_ties}
 use Rattle.lvm_tie.proofs.RequestsLemmas.SubmitTies.{submit_ties}
 use Rattle.lvm_tie.proofs.CallsLemmas.CloseTies.{close_ties}
 use Rattle.lvm_tie.proofs.CallsLemmas.OpenTies.{open_ties}
+use Rattle.lvm_tie.proofs.CallsLemmas.OpenMoveTies.{open_move_ties}
 use Rattle.lvm_tie.proofs.OverLemmas.Orders.{order_goes_on, order_ties}
 use Rattle.lvm_tie.proofs.OverLemmas.Taking.{take_goes_on}
-use Rattle.lvm_tie.specs.GoingOn.{SessionGoesOn, SubmitGoesOn, AnswerGoesOn, OpenGoesOn, CloseGoesOn, ArrangeGoesOn}
+use Rattle.lvm_tie.specs.GoingOn.{SessionGoesOn, SubmitGoesOn, AnswerGoesOn, OpenGoesOn, OpenMoveGoesOn, CloseGoesOn, ArrangeGoesOn}
 use Rattle.lvm_tie.proofs.GoingOnLemmas.Spanning.{goes_same, goes_still, goes_entry}
 
 -- ---- requests
@@ -77,6 +80,15 @@ open_goes_on run s new counts lv lp number answer sound gives = by (copy_fault s
     by : (m : Option CopyFault) → MatchOption m ((answer ≡ Ok tt) × Opens counts s.core new lv lp number) (λ (why : CopyFault). (answer ≡ Err why) × (new ≡ s.core)) → SessionGoesOn run s (state s.device new)
     by None given = goes_still run s (state s.device new) (λ past tied. open_ties past s new counts lv lp number answer tied sound gives)
         (λ on. sym (ap (λ (c : Core). c.power) given.1.is) ∙ on) refl (ap (λ (c : Core). c.history.facts) given.1.is)
+    by (Some why) given = goes_same run s (state s.device new) (ap (λ (c : Core). state s.device c) given.1)
+
+pub open_move_goes_on : OpenMoveGoesOn
+open_move_goes_on run s new counts lv lp number to answered sound gives = by (move_fault s.core lv lp number to) gives
+  where
+    by : (m : Option OpenFault) → MatchOption m (((answered ≡ Ok tt) × OpensMove counts s.core new lv lp number to) ⊎ ((answered ≡ Err denial.Memory) × (new ≡ s.core))) (λ (why : OpenFault). (answered ≡ Err why) × (new ≡ s.core)) → SessionGoesOn run s (state s.device new)
+    by None (inl given) = goes_still run s (state s.device new) (λ past tied. open_move_ties past s new counts lv lp number to answered tied sound gives)
+        (λ on. sym (ap (λ (c : Core). c.power) given.1.is) ∙ on) refl (ap (λ (c : Core). c.history.facts) given.1.is)
+    by None (inr given) = goes_same run s (state s.device new) (ap (λ (c : Core). state s.device c) given.1)
     by (Some why) given = goes_same run s (state s.device new) (ap (λ (c : Core). state s.device c) given.1)
 
 pub close_goes_on : CloseGoesOn

@@ -1,7 +1,10 @@
 -- The calls of a client enter no landing, but where the power is cut.
-use Rattle.std.proofs.Common.{◌≡◌, ℕ, Bool, true, false, ◌&&◌, List, [], ◌∷◌, Option, Some, None, refl, sym, ap, subst, ◌∙◌}
+use Rattle.std.proofs.Common.{◌≡◌, ℕ, Bool, true, false, ◌&&◌, List, [], ◌∷◌, Option, Some, None, refl, sym, ap, subst, ◌∙◌, ◌⊎◌, inl, inr, not, ◌||◌, append-nil}
 use Rattle.std.specs.Prelude.{MatchOption, map, position, if◌then◌else◌, Result, Ok, Err}
 use Rattle.std.specs.List.{AllByRecursion}
+use Rattle.lvm_num.specs.Descriptor.{is_pp}
+use Rattle.lvm_num.specs.Status.{calls_missing, calls_stale}
+use Rattle.lvm_num.specs.declared.place.Pp.{Pp}
 use Rattle.lvm_num.proofs.Lists.{all_push}
 use Rattle.lvm_disk.specs.declared.shelf.Arrange.{Arrange}
 use Rattle.lvm_disk.specs.Counts.{NoneFalls, Counts}
@@ -19,14 +22,16 @@ use Rattle.lvm_session.specs.declared.open.Open.{Open}
 use Rattle.lvm_session.specs.State.{Core, State, state}
 use Rattle.lvm_session.specs.declared.answers.AskFault.{AskFault}
 use Rattle.lvm_session.specs.declared.answers.CopyFault.{CopyFault}
+use Rattle.lvm_session.specs.declared.answers.OpenFault.{OpenFault}
+use Rattle.lvm_session.specs.declared.answers.OpenFault.TheVariants as denial
 use Rattle.lvm_session.specs.declared.answers.Taken.{Taken as Answer}
-use Rattle.lvm_session.specs.Calls.{OpenGives, Opens, SubmitGives, TakeAt, TakeGives, TakesLanded, after_take, aged, ask_fault, copy_fault, is_asked, new_open, submitted}
+use Rattle.lvm_session.specs.Calls.{OpenGives, OpenMoveGives, Opens, OpensMove, move_fault, SubmitGives, TakeAt, TakeGives, TakesLanded, after_take, aged, ask_fault, copy_fault, is_asked, new_open, submitted, CallsStale}
 use Rattle.lvm_session.specs.Dark.{all_dark, is_cut}
 use Rattle.lvm_session.specs.Turns.{ArrangesSession}
 use Rattle.lvm_keeps_events.proofs.passed.Names.{all_mapped, all_removed}
 use Rattle.lvm_tie.specs.Landings.{CallsKeepCauses, FailuresAreCaused, HasCausesSince}
 use Rattle.lvm_tie.proofs.SessionEndsLemmas.Grounds.{ground}
-use Rattle.lvm_tie.proofs.LandingsLemmas.Causes.{dark_caused, goes_on, stays_caused, stays_with}
+use Rattle.lvm_tie.proofs.LandingsLemmas.Causes.{KeepsOrigin, dark_caused, goes_on, goes_on_from, stays_caused, stays_with}
 
 module _ (first : List Fact) (s : State) (new : Core) (was : HasCausesSince first s) where
   -- nothing of it changes
@@ -76,6 +81,33 @@ module _ (first : List Fact) (s : State) (new : Core) (was : HasCausesSince firs
           (λ on. all_mapped (FailuresAreCaused s.device) (FailuresAreCaused s.device) aged (λ o failed. failed) s.core.requests (was.failed on)) was
       by (Some why) it = same_caused (ap ground it.1)
 
+  -- the destination of a move counts as stale since the session began
+  origin_kept : (to : Pp) → CallsStale to s.core.origin new.origin → KeepsOrigin s.core new
+  origin_kept to called = record {
+    faults = called.faults;
+    unusable = λ p was. (λ t. not (called.table.stale p t) && not (called.table.missing p.disk t)) ∙ less (calls_stale s.core.origin.table p) (is_pp p to) (calls_missing s.core.origin.table p.disk) was;
+  }
+    where
+      less : (a b m : Bool) → (not a && not m) ≡ false → (not (a || b) && not m) ≡ false
+      less true b m h = refl
+      less false true m h = refl
+      less false false m h = h
+
+  move_caused : (counts : Counts) (lv lp number : ℕ) (to : Pp) → OpensMove counts s.core new lv lp number to → HasCausesSince first (state s.device new)
+  move_caused counts lv lp number to it =
+      goes_on_from s (state s.device new) (none_falls_at_once s.device.counts) (ap (λ (c : Core). c.descriptor) it.is) (origin_kept to it.called) first []
+      (ap (λ (c : Core). c.history.facts) it.is ∙ sym (append-nil s.core.history.facts)) tt
+      (λ on. subst (λ (os : List Open). AllByRecursion (FailuresAreCaused s.device) os) (sym (ap (λ (c : Core). c.requests) it.is))
+      (all_mapped (FailuresAreCaused s.device) (FailuresAreCaused s.device) aged (λ o failed. failed) s.core.requests (was.failed (sym (ap (λ (c : Core). c.power) it.is) ∙ on)))) was
+
+  opens_move : (counts : Counts) (lv lp number : ℕ) (to : Pp) (answered : Result (Unit {0}) OpenFault) → OpenMoveGives counts s.core new lv lp number to answered → HasCausesSince first (state s.device new)
+  opens_move counts lv lp number to answered = by (move_fault s.core lv lp number to)
+    where
+      by : (m : Option OpenFault) → MatchOption m (((answered ≡ Ok tt) × OpensMove counts s.core new lv lp number to) ⊎ ((answered ≡ Err denial.Memory) × (new ≡ s.core))) (λ (why : OpenFault). (answered ≡ Err why) × (new ≡ s.core)) → HasCausesSince first (state s.device new)
+      by None (inl it) = move_caused counts lv lp number to it.1
+      by None (inr it) = same_caused (ap ground it.1)
+      by (Some why) it = same_caused (ap ground it.1)
+
 -- ---- orders
 
 arrange_counts : (old new : State) (what : Arrange) (done : Bool) → ArrangeGives old.device new.device what done → NoneFalls old.device.counts new.device.counts
@@ -94,6 +126,7 @@ calls_keep_causes = record {
   submit = λ client ask bytes answer first s new gives was. submits first s new was client ask bytes answer gives;
   take = λ client id answer first s new gives was. takes first s new was client id answer gives;
   open_copy = λ counts lv lp number answer first s new gives was. opens first s new was counts lv lp number answer gives;
+  open_move = λ counts lv lp number to answer first s new gives was. opens_move first s new was counts lv lp number to answer gives;
   close_copy = λ first s new closes was. same_caused first s new was (ap ground closes.is);
   arrange = arrange_caused;
 }

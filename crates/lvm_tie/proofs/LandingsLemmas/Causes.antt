@@ -1,8 +1,9 @@
 -- Each landing of a turn has its cause.
-use Rattle.std.proofs.Common.{◌≡◌, ◌≤◌, ◌<◌, ◌+◌, ◌-◌, ◌*◌, ◌/◌, ◌%◌, inl, inr, ℕ, Bool, true, false, ◌&&◌, ◌||◌, ◌==◌, nat_le, nat_lt, if◌then◌else◌, List, [], ◌∷◌, ◌++◌, Option, Some, None, refl, sym, ◌∙◌, ap, subst, arith, append_assoc, append-nil}
+use Rattle.std.proofs.Common.{◌≡◌, ◌≤◌, ◌<◌, ◌+◌, ◌-◌, ◌*◌, ◌/◌, ◌%◌, inl, inr, ℕ, Bool, true, false, ◌&&◌, ◌||◌, ◌==◌, nat_le, nat_lt, if◌then◌else◌, List, [], ◌∷◌, ◌++◌, Option, Some, None, refl, sym, ◌∙◌, ap, subst, arith, append_assoc, append-nil, not}
 use Rattle.std.specs.Prelude.{slice_get, slice_index_or, slice_set, unwrap_or}
 use Rattle.std.specs.List.{AllByRecursion, list_any}
 use Rattle.std.proofs.lemmas.Bool.{eqb-true, leb-true, ltb-true}
+use Rattle.lvm_num.specs.Status.{calls_missing, calls_stale}
 use Rattle.lvm_invariant.proofs.FaultsLemmas.{append_all}
 use Rattle.lvm_num.specs.declared.descriptor.Descriptor.{Descriptor}
 use Rattle.lvm_num.specs.declared.place.Pp.{Pp}
@@ -59,18 +60,22 @@ use Rattle.lvm_tie.proofs.SessionEndsLemmas.Grounds.{Ground, ground, ground_with
 
 -- ---- what was a cause goes on to be one
 
-module _ (old new : State) (more : NoneFalls old.device.counts new.device.counts) (descriptor : new.core.descriptor ≡ old.core.descriptor) (origin : new.core.origin ≡ old.core.origin) where
+-- the counts of faults at the beginning are the same, and what couldn't be used then can't
+pub record KeepsOrigin (old new : Core) : Type 0 where
+  pub faults : new.origin.faults ≡ old.origin.faults
+  pub unusable : (p : Pp) → was_usable old p ≡ false → was_usable new p ≡ false
+
+module _ (old new : State) (more : NoneFalls old.device.counts new.device.counts) (descriptor : new.core.descriptor ≡ old.core.descriptor) (origin : KeepsOrigin old.core new.core) where
   failed_on : AnyFailedSince old → AnyFailedSince new
   failed_on it = (
     it.0,
-    subst (λ (o : Origin). Rose (slice_index_or o.faults it.0 0) (new.device.counts.faults it.0)) (sym origin)
+    subst (λ (faults : List ℕ). Rose (slice_index_or faults it.0 0) (new.device.counts.faults it.0)) (sym origin.faults)
         (rose_on (faults_at_first old.core it.0) (old.device.counts.faults it.0) (new.device.counts.faults it.0) (more.faults it.0) it.1),
   )
 
   none_on : (r : Asked) → HadNone old.core r → HadNone new.core r
-  none_on r none =
-      subst (λ (d : Descriptor). HadNone (record new.core { descriptor = d }) r) (sym descriptor)
-      (subst (λ (o : Origin). HadNone (record new.core { descriptor = old.core.descriptor; origin = o }) r) (sym origin) none)
+  none_on r none lv b p over among =
+      origin.unusable p (none lv b p over (ap (λ (d : Descriptor). is_among (copies_in d lv (partition_of d.mib b)) p) (sym descriptor) ∙ among))
 
   landed_on : (r : Asked) (how : Outcome) → HasLandedFor old r how → HasLandedFor new r how
   landed_on r outcome.Lost why = failed_on why
@@ -95,14 +100,23 @@ module _ (old new : State) (more : NoneFalls old.device.counts new.device.counts
   entry_on (On moment) why = why
 
   -- with entries that have their causes
-  pub goes_on : (first added : List Fact) → new.core.history.facts ≡ old.core.history.facts ++ added → AllByRecursion (IsEntryCaused old) added
+  pub goes_on_from : (first added : List Fact) → new.core.history.facts ≡ old.core.history.facts ++ added → AllByRecursion (IsEntryCaused old) added
       → (new.core.power ≡ power.On → AllByRecursion (FailuresAreCaused new.device) new.core.requests) → HasCausesSince first old → HasCausesSince first new
-  goes_on first added facts caused failed was = record {
+  goes_on_from first added facts caused failed was = record {
     since = was.since ++ added;
     is = facts ∙ ap (λ (fs : List Fact). fs ++ added) was.is ∙ append_assoc first was.since added;
     caused = all_weaker (IsEntryCaused old) (IsEntryCaused new) entry_on (was.since ++ added) (append_all (IsEntryCaused old) was.since added was.caused caused);
     failed = failed;
   }
+
+-- so where the origin stays
+pub goes_on : (old new : State) → NoneFalls old.device.counts new.device.counts → new.core.descriptor ≡ old.core.descriptor → new.core.origin ≡ old.core.origin → (first added : List Fact)
+    → new.core.history.facts ≡ old.core.history.facts ++ added → AllByRecursion (IsEntryCaused old) added
+    → (new.core.power ≡ power.On → AllByRecursion (FailuresAreCaused new.device) new.core.requests) → HasCausesSince first old → HasCausesSince first new
+goes_on old new more descriptor origin = goes_on_from old new more descriptor (record {
+  faults = ap (λ (o : Origin). o.faults) origin;
+  unusable = λ p was. ap (λ (o : Origin). not (calls_stale o.table p) && not (calls_missing o.table p.disk)) origin ∙ was;
+})
 
 -- a disk that has failed has failed later too
 failures_on : (old new : Device) → NoneFalls old.counts new.counts → (ts : List Target) → AllByRecursion (λ (t : Target). is_failed t.state ≡ true → TargetHasFailed old t) ts → AllByRecursion (λ (t : Target). is_failed t.state ≡ true → TargetHasFailed new t) ts

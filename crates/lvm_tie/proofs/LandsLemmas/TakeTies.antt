@@ -130,7 +130,6 @@ module _ (past : List Fact) (old : State) (place : ℕ) (o : Open) (tied : IsTie
     open_copy = tied.sees.open_copy;
     step_write = tied.sees.step_write;
     beside = tied.sees.beside;
-    brings = tied.sees.brings;
   }
 
   takes : TakesAnswerOf v i q

@@ -340,7 +340,6 @@ module _ (past : List Fact) (old new : State) (at disk : ℕ) (row : Flown) (buf
     open_copy = tied.sees.open_copy;
     step_write = tied.sees.step_write;
     beside = tied.sees.beside;
-    brings = tied.sees.brings;
   }
 
   -- ---- what is out, and the next update

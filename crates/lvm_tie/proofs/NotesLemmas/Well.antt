@@ -119,7 +119,6 @@ module _ (past : List Fact) (old new : State) (at disk : ℕ) (row : Flown) (buf
     open_copy = tied.sees.open_copy;
     step_write = tied.sees.step_write;
     beside = tied.sees.beside;
-    brings = tied.sees.brings;
   }
 
   carries : (g : Flight) (who : Owner) → CarriesStep core v g who → CarriesStep next w g who

@@ -94,7 +94,6 @@ module _ (old new : Stored) (rest : seen new ≡ record (seen old) { wanted = ne
     open_copy = sees.open_copy;
     step_write = sees.step_write;
     beside = sees.beside;
-    brings = sees.brings;
   }
 
   -- what the members show lasts

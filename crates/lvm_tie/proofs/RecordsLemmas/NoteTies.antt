@@ -230,7 +230,6 @@ module _ (past : List Fact) (old new : State) (place disk : ℕ) (starts : Start
     open_copy = tied.sees.open_copy;
     step_write = tied.sees.step_write;
     beside = tied.sees.beside;
-    brings = tied.sees.brings;
   }
 
   carries : (g : Flight) (who : Owner) → CarriesStep core v g who → CarriesStep next w g who

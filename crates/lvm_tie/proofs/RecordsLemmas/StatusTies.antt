@@ -242,7 +242,6 @@ module _ (past : List Fact) (old new : State) (starts : StartsStatus old new) (t
     open_copy = tied.sees.open_copy;
     step_write = tied.sees.step_write;
     beside = tied.sees.beside;
-    brings = tied.sees.brings;
   }
 
   carries : (g : Flight) (o : Owner) → CarriesStep old.core v g o → CarriesStep core2 w g o

@@ -74,7 +74,6 @@ sees_cache past core v entries sees = record {
   open_copy = sees.open_copy;
   step_write = sees.step_write;
   beside = sees.beside;
-  brings = sees.brings;
 }
 
 counted : (os : List Open) (k : ℕ) (o : Open) (t : Open → Bool) → slice_get os k ≡ Some o → t o ≡ true → 0 < count_by t os

@@ -263,7 +263,6 @@ module _ (past : List Fact) (old : State) (client : ℕ) (ask : Ask) (bytes : Op
     open_copy = tied.sees.open_copy;
     step_write = tied.sees.step_write;
     beside = tied.sees.beside;
-    brings = tied.sees.brings;
   }
 
   carries : (g : Flight) (who : Owner) → CarriesStep core v g who → CarriesStep new w g who

@@ -19,8 +19,6 @@ use Rattle.lvm_crash.specs.Session.{HasVolumes, IsPlaceOf, is_beside, marks_of}
 use Rattle.lvm_crash.proofs.WritingLemmas.{pp_same, same_pp}
 use Rattle.lvm_session.specs.declared.bringing.OpenCopy.{OpenCopy}
 use Rattle.lvm_session.specs.State.{Core}
-use Rattle.lvm_session.specs.Judging.{is_moving}
-use Rattle.lvm_session.proofs.MovesLemmas.{unmoving}
 use Rattle.lvm_tie.specs.Seen.{beside_if, beside_of, its_blocks}
 
 -- ---- marks
@@ -139,14 +137,6 @@ closed_beside core is = ap (λ (m : Option OpenCopy). option_map_or (λ (d : Ope
 pub none_beside : (core : Core) (c : OpenCopy) (o : Option Beside) → o ≡ beside_of core → core.copy ≡ Some c → c.moves ≡ false → o ≡ None
 none_beside core c o seen is stays =
     open_beside core c o seen is ∙ ap (λ b. beside_if b core c) stays
-
--- where none moves nothing is
-pub unmoving_beside : (core : Core) → is_moving core ≡ false → beside_of core ≡ None
-unmoving_beside core none = by core.copy refl
-  where
-    by : (m : Option OpenCopy) → core.copy ≡ m → beside_of core ≡ None
-    by None is = closed_beside core is
-    by (Some c) is = none_beside core c (beside_of core) refl is (unmoving core c is none)
 
 -- where it does its destination is
 pub moving_beside : (core : Core) (c : OpenCopy) (o : Option Beside) → o ≡ beside_of core → core.copy ≡ Some c → c.moves ≡ true → o ≡ Some (record { place = c.pp; its = its_blocks core c })

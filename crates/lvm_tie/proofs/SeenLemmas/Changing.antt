@@ -144,5 +144,4 @@ module _ (past : List Fact) (core : Core) (v : ModelState) (place : ℕ) (o o2 :
     open_copy = sees.open_copy;
     step_write = sees.step_write;
     beside = sees.beside;
-    brings = sees.brings;
   }

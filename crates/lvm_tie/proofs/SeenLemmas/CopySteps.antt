@@ -31,7 +31,6 @@ use Rattle.lvm_tie.specs.Tied.{IsTied, ShowsRecords, CommittedIsOne}
 use Rattle.lvm_tie.proofs.TiedLemmas.Orderly.{AreOut, StepIsOut, open_one, orderly_same, out_of}
 use Rattle.lvm_tie.proofs.OutLemmas.Ties.{since_start}
 use Rattle.lvm_tie.proofs.SeenLemmas.Beside.{open_beside}
-use Rattle.lvm_session.proofs.MovesLemmas.{unmoving}
 
 -- ---- the step of the copy goes on
 
@@ -79,7 +78,6 @@ module _ (past : List Fact) (core : Core) (v : ModelState) (c : OpenCopy) (st : 
     open_copy = running_on (is_running c) (groups_of core) c st v.open_copy (subst (λ (m : Option OpenCopy). SeesCopy (groups_of core) m v.open_copy) is sees.open_copy);
     step_write = refl;
     beside = open_beside core c v.beside sees.beside is;
-    brings = unmoving core c is sees.brings;
   }
 
 -- what a start of the copy's changes of the shelf and of what is out

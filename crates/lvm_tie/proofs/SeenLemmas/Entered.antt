@@ -29,5 +29,4 @@ sees_entered past core v f aside sees = record {
   open_copy = sees.open_copy;
   step_write = sees.step_write;
   beside = sees.beside;
-  brings = sees.brings;
 }

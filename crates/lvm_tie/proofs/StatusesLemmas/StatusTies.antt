@@ -205,7 +205,6 @@ module _ (past : List Fact) (old new : State) (index disk : ℕ) (ok : Bool) (ro
       open_copy = tied.sees.open_copy;
       step_write = tied.sees.step_write;
       beside = tied.sees.beside;
-      brings = tied.sees.brings;
     }
 
     orderly : (write : Option RecordWrite) → IsWriteOf status learns.homes status.in_flight write → IsOrderly (state new.device (with_end core2 end)) write

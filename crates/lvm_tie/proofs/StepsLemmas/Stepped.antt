@@ -34,7 +34,6 @@ use Rattle.lvm_tie.proofs.StepsLemmas.Leaving.{Stands, copy_over, gone, gone_her
 use Rattle.lvm_tie.proofs.StepsLemmas.Landed.{HasLanded, at_q, ended, hand, now, out, q, row_there, sees, since}
 use Rattle.lvm_tie.proofs.NearLemmas.{no_write}
 use Rattle.lvm_tie.proofs.SeenLemmas.Beside.{open_beside}
-use Rattle.lvm_session.proofs.MovesLemmas.{unmoving}
 
 -- ---- what is seen
 
@@ -90,7 +89,6 @@ module _ (past : List Fact) (core : Core) (v : ModelState) (c d : OpenCopy) (poo
     open_copy = its.open_seen;
     step_write = sym (no_write d d.step its.rests);
     beside = open_beside core c v.beside sees_v.beside is ∙ sym (λ t. beside_if (its.same.moves t) core (record c { lv = its.same.lv t; lp = its.same.lp t; pp = its.same.pp t }));
-    brings = its.same.moves ∙ unmoving core c is sees_v.brings;
   }
 
 -- the copy goes on with the same track groups behind it

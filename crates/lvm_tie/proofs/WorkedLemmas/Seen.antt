@@ -109,5 +109,4 @@ module _ (mode : Mode) (stale : Bool) where
     open_copy = refl;
     step_write = refl;
     beside = refl;
-    brings = refl;
   }
