@@ -21,7 +21,8 @@ use Rattle.lvm_invariant.specs.State.{Beside, Queued, ModelState, covers}
 use Rattle.lvm_invariant.specs.Submit.{IsPlaced}
 use Rattle.lvm_disk.specs.Device.{image_of}
 use Rattle.lvm_kept.specs.Contents.{contents_of}
-use Rattle.lvm_crash.specs.Session.{HasVolumes, members_showing}
+use Rattle.lvm_crash.specs.Session.{HasVolumes}
+use Rattle.lvm_even.specs.Members.{members_showing}
 use Rattle.lvm_crash.specs.Copies.{IsCopyOf}
 use Rattle.lvm_crash.proofs.CopiesLemmas.{copy_placed}
 use Rattle.lvm_crash.proofs.OwnedLemmas.{covered}

@@ -48,7 +48,8 @@ use Rattle.lvm_keeps.proofs.CacheLemmas.{no_copy}
 use Rattle.lvm_invariant.specs.State.{Beside, Marks, Queued, ModelState, Stage, is_past}
 use Rattle.lvm_invariant.specs.Good.{Good}
 use Rattle.lvm_crash.specs.Copies.{IsCopyOf}
-use Rattle.lvm_crash.specs.Session.{Describes, IsFreePlace, as_marks, is_beside, marks_of, members_showing}
+use Rattle.lvm_crash.specs.Session.{Describes, IsFreePlace, as_marks, is_beside, marks_of}
+use Rattle.lvm_even.specs.Members.{members_showing}
 use Rattle.lvm_crash.proofs.CopiesLemmas.{number_finds, one_block}
 use Rattle.lvm_crash.proofs.WritingLemmas.{same_pp}
 use Rattle.lvm_places.specs.Places.{BlocksOf, IsUnaimed, Marking}
