@@ -1,0 +1,11 @@
+pub mod WaitingLemmas
+pub mod IdleLemmas
+pub mod MembersLemmas
+pub mod SameLemmas
+pub mod StatusLemmas
+pub mod EndingLemmas
+pub mod KeepingLemmas
+pub mod DrainedLemmas
+pub mod MovedLemmas
+pub mod StandsLemmas
+pub mod WorkedLemmas

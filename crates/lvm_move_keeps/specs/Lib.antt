@@ -1,0 +1,5 @@
+pub mod Waiting
+pub mod Keeping
+pub mod Moved
+pub mod Drained
+pub mod Worked

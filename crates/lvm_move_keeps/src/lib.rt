@@ -1,0 +1,10 @@
+//! Laws of a session in which the descriptor of a move is committed: requests that wait stand in it as before, and it stays
+//! sound.
+#![tactic(auto)]
+
+mod laws;
+
+pub use laws::{
+    drained_moves_may_be_committed, move_keeps_sound, moved_has_moved, moves_may_be_committed,
+    waiting_stays,
+};
