@@ -62,7 +62,7 @@ use Rattle.lvm_session.specs.Bringing.{hand_of, has_row, is_out, is_whole, step_
 use Rattle.lvm_session.specs.Causes.{AreCaused, AreCounted, FailedSince, IsAnswered, IsCaused, IsCounted, IsLandedFor, IsTrueToOrigin, is_held_stale, is_over, was_usable}
 use Rattle.lvm_session.specs.Dark.{hand_of_copy}
 use Rattle.lvm_session.specs.Judging.{IsWithinVolume, copies_for, copies_in, is_missing, is_running, is_wanted_stale}
-use Rattle.lvm_session.specs.Left.{clean_volumes, copy_updates, updates_left}
+use Rattle.lvm_session.specs.Left.{clean_volumes, copy_updates, if_open, updates_left}
 use Rattle.lvm_session.specs.Marks.{WantsStale, is_among, is_entailed}
 use Rattle.lvm_session.specs.Owners.{AreOwned, AreRows, flies, same_owner}
 use Rattle.lvm_session.specs.Placed.{ArePlaced}
@@ -299,7 +299,7 @@ module _ (s : State) (c : OpenCopy) (next : Descriptor) (last st : Stored) (home
       let one = one_if (not (same_status core.status.wanted (unwrap_or core.status.in_flight core.status.committed))) in
       let a = many_before in
       let b = many_now in
-      let d = clean_is in
+      let d = ap (if_open old.requests) clean_is in
       let e = its_updates in
       omega (arith, was, spent, stamp, one, a, b, d, e)
 
