@@ -198,7 +198,7 @@ module _ {S : Type 0} (device : S → Device) (stage : Stage S) (fits : IsFittin
 
       -- ---- what is left of it
 
-      abbrev pub stays_on : (lasts : over ≡ false) (last : ℕ) → StaysOn left (state_in device stage last) (state_in device it last)
+      abbrev stays_on : (lasts : over ≡ false) (last : ℕ) → StaysOn left (state_in device stage last) (state_in device it last)
       stays_on lasts last =
           let on = left_on lasts in
           record {

@@ -22,7 +22,6 @@ use Rattle.lvm_range_lines.specs.passed.Names.{AreAnswered, ended_with}
 use Rattle.lvm_range_lines.specs.passed.Tie.{LeavesSession}
 use Rattle.lvm_range_lines.proofs.passed.Tie.{goes_any, path_frames, path_shape, stays_unstuck}
 use Rattle.lvm_range_lines.specs.passed.GroupLines.{EndsUnasked, patience_of_line, LineGoesOn, Role, IsStuck, most_refusals, HaveRooms, IsBetweenStage, IsClosed, SessionIsClosed, IsFittingStage, history_in, open_in, posts_ended, session_in, shelf_in, state_in, ArePosted, IsAtRest, ScriptState, without_facts, Reply, Stage}
-use Rattle.lvm_range_lines.specs.passed.HolderVariants as holder
 use Rattle.lvm_range_lines.specs.passed.ReplyVariants as reply
 use Rattle.lvm_range_lines.proofs.passed.GroupLines.{one_refused, LeavesAnswers, end_posts, none_held, IsRun, over_goes, over_landed}
 use Rattle.lvm_range_lines.proofs.LeavingLemmas.Ending.{off_kind}

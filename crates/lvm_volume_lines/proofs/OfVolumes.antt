@@ -1,8 +1,8 @@
 -- Commands on volumes of the group that is on, from the session that has come to rest.
-use Rattle.std.proofs.Common.{◌≡◌, ℕ, Bool, true, false, List, refl, sym, ap, subst, Result}
+use Rattle.std.proofs.Common.{◌≡◌, ℕ, Bool, false, List, refl, subst, Result}
 use Rattle.std.specs.Prelude.{⊤, MatchBool}
 use Rattle.lvm_num.specs.declared.place.Pp.{Pp}
-use Rattle.lvm_disk.specs.Device.{Device, HasSectors, IsReady}
+use Rattle.lvm_disk.specs.Device.{Device, HasSectors}
 use Rattle.lvm_vol.specs.Log.{Log}
 use Rattle.lvm_kept.specs.Moments.{Moment}
 use Rattle.lvm_steps.specs.Moments.{Keeps}

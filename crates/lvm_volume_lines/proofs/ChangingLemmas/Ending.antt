@@ -1,9 +1,8 @@
 -- How a line ends by which the group is changed, from the session that has come to rest.
-use Rattle.std.proofs.Common.{◌≡◌, ◌≤◌, ⊎_elim, ℕ, Bool, true, false, [], Result, Ok, Err, refl, sym, ap, subst, arith}
+use Rattle.std.proofs.Common.{◌≡◌, ◌≤◌, ⊎_elim, ℕ, Bool, true, false, [], Result, Ok, Err, refl, sym, subst, arith}
 use Rattle.std.specs.Prelude.{⊤, MatchBool}
 use Rattle.lvm_num.specs.declared.descriptor.Descriptor.{Descriptor}
 use Rattle.lvm_disk.specs.Device.{Device, HasSectors, IsReady}
-use Rattle.lvm_vol.specs.Facts.{Fact}
 use Rattle.lvm_vol.specs.Log.{Log}
 use Rattle.lvm_kept.specs.Moments.{Moment}
 use Rattle.lvm_steps.specs.Moments.{Keeps}
@@ -13,13 +12,13 @@ use Rattle.lvm_core.specs.Committing.{moment_of}
 use Rattle.lvm_core.specs.Settled.{IsSettled}
 use Rattle.lvm_core.specs.Sound.{HaveAllLanded}
 use Rattle.lvm_core.specs.State.{state_of}
-use Rattle.lvm_range_lines.specs.passed.TieCommands.{IsAloneAtFirst, IsLeftStandingSince, MayBeCommanded}
+use Rattle.lvm_range_lines.specs.passed.TieCommands.{IsLeftStandingSince, MayBeCommanded}
 use Rattle.lvm_range_lines.specs.passed.Volumes.{StillHeld}
 use Rattle.lvm_range_lines.specs.passed.Names.{AreAnswered}
 use Rattle.lvm_range_lines.specs.passed.GroupLines.{EndsUnasked, most_refusals, patience_of_line, Role, IsBetweenStage, IsFittingStage, open_in, session_in, shelf_in, history_in, state_in, ScriptState, without_facts, Reply, Stage}
 use Rattle.lvm_range_lines.specs.passed.RefusalVariants as refusal
 use Rattle.lvm_range_lines.specs.passed.ReplyVariants as reply
-use Rattle.lvm_range_lines.proofs.passed.GroupLines.{LeavesAnswers, answered_bears, landed_bears}
+use Rattle.lvm_range_lines.proofs.passed.GroupLines.{answered_bears, landed_bears}
 use Rattle.lvm_volume_lines.specs.passed.Members.{ChangeLeaves, IfOn, RuleFault, is_over}
 use Rattle.lvm_volume_lines.specs.passed.RuleFaultVariants as fault
 use Rattle.lvm_volume_lines.specs.Changing.{IsChangeCarriedOut, IsChangeDone, change_reply}

@@ -2,9 +2,7 @@
 use Rattle.std.proofs.Common.{◌≡◌, ◌∙◌, ◌++◌, ℕ, List, Option, Some, Result, Ok, Err, sym, ap, subst}
 use Rattle.std.specs.Prelude.{IsSomeAnd}
 use Rattle.lvm_disk.specs.Device.{Device}
-use Rattle.lvm_vol.specs.Facts.{Fact}
 use Rattle.lvm_vol.specs.Log.{Log}
-use Rattle.lvm_kept.specs.Moments.{Moment}
 use Rattle.lvm_steps.specs.Moments.{RunBegins, Keeps}
 use Rattle.lvm_session.specs.State.{Core, State, state}
 use Rattle.lvm_core.specs.State.{state_of}
@@ -12,9 +10,9 @@ use Rattle.lvm_volume_lines.specs.passed.VolumePlan.{GroupFault, is_over}
 use Rattle.lvm_volume_lines.specs.passed.Handover.{IsCommanded}
 use Rattle.lvm_volume_lines.specs.passed.Splitting.{ShareContent, SplitGives, to_split}
 use Rattle.lvm_range_lines.specs.passed.TieCommands.{MayBeCommanded}
-use Rattle.lvm_volume_lines.specs.passed.GroupLines.{IsAlone, IsBetweenStage, IsFittingStage, OfGroup, StandsBy, history_in, open_in, patience_of_line, session_in, shelf_in, state_in, Reply, Stage}
+use Rattle.lvm_volume_lines.specs.passed.GroupLines.{IsBetweenStage, IsFittingStage, OfGroup, StandsBy, history_in, open_in, patience_of_line, session_in, shelf_in, state_in, Reply, Stage}
 use Rattle.lvm_volume_lines.specs.passed.ReplyVariants as reply
-use Rattle.lvm_volume_lines.specs.Commands.{HasRested, IsCarriedOut, IsLeftAs, IsLeftOn, none_added}
+use Rattle.lvm_volume_lines.specs.Commands.{HasRested, IsCarriedOut, IsLeftAs, none_added}
 use Rattle.lvm_volume_lines.specs.Volumes.{volume_reply}
 use Rattle.lvm_volume_lines.specs.Sharing.{SharesBehind, SharesSession}
 use Rattle.lvm_volume_lines.proofs.passed.Splitting.{split_shares}

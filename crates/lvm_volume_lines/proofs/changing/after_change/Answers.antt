@@ -1,4 +1,4 @@
-use Rattle.std.proofs.Common.{◌≡◌, ◌∙◌, [], Bool, Result, Err, false, sym, ap, subst}
+use Rattle.std.proofs.Common.{◌≡◌, ◌∙◌, [], Bool, Result, Err, sym, ap, subst}
 use Rattle.lvm_volume_lines.specs.passed.Members.{RuleFault, is_over}
 use Rattle.lvm_volume_lines.specs.passed.RuleFaultVariants as fault
 use Rattle.lvm_volume_lines.specs.Commands.{IsLeftAs, IsLeftOn}

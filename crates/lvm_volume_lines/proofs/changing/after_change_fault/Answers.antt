@@ -1,4 +1,4 @@
-use Rattle.std.proofs.Common.{◌≡◌, ◌∙◌, [], Bool, true, false, sym, subst}
+use Rattle.std.proofs.Common.{[], Bool, sym, subst}
 use Rattle.lvm_volume_lines.specs.Commands.{IsLeftAs, IsLeftOff, IsLeftOn}
 use Rattle.lvm_volume_lines.proofs.changing.after_change_fault.Goals as goal
 

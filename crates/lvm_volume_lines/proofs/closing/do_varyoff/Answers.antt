@@ -1,9 +1,9 @@
-use Rattle.std.proofs.Common.{◌≡◌, ◌≤◌, ◌∙◌, ℕ, true, refl, sym, ap, subst, arith}
+use Rattle.std.proofs.Common.{◌≡◌, ◌≤◌, ◌∙◌, ℕ, refl, sym, ap, subst, arith}
 use Rattle.lvm_range_lines.specs.passed.GroupLines.{EndsUnasked, OfGroup, IsOn, open_in, session_in, Refusal, Reply, Stage}
 use Rattle.lvm_range_lines.specs.passed.RefusalVariants as refusal
 use Rattle.lvm_range_lines.specs.passed.ReplyVariants as reply
 use Rattle.lvm_range_lines.proofs.passed.GroupLines.{refused_ends}
-use Rattle.lvm_volume_lines.specs.Closing.{BusyVaryoff, NoVaryoff, UndrainedVaryoff, VaryoffDoes, is_dirty_on}
+use Rattle.lvm_volume_lines.specs.Closing.{BusyVaryoff, NoVaryoff, UndrainedVaryoff, VaryoffDoes}
 use Rattle.lvm_volume_lines.specs.Commands.{HasBrokenOff, HasRested}
 use Rattle.lvm_volume_lines.specs.Volumes.{drain_refusal}
 use Rattle.lvm_volume_lines.proofs.ClosingLemmas.{closes_clean, varyoff_ends}
