@@ -33,6 +33,7 @@ use Rattle.lvm_tie.specs.Seen.{IsRequestAt, IsStepAt, Sees, update_of}
 use Rattle.lvm_tie.specs.Tied.{IsTied}
 use Rattle.lvm_tie.proofs.GoingOnLemmas.Spanning.{goes_entry}
 use Rattle.lvm_tie.proofs.LandingsLemmas.Causes.{goes_on}
+use Rattle.lvm_tie.proofs.LawsLemmas.Running.{origin_same}
 use Rattle.lvm_tie.proofs.SeenLemmas.Entered.{sees_entered}
 use Rattle.lvm_going_laws.specs.Laws.{RunsGood}
 
@@ -160,8 +161,9 @@ module _ (s : State) (id : ℕ) (its : is_answered s.core.history.facts 1 id ≡
       epoch = λ lit. record { epoch = refl; stamped = λ stamped. stamped };
       later = λ moment later. later_joins moment s.core.history.facts (fact ∷ []) later tt;
       causes = λ first was. goes_on s (state s.device after) (none_falls_at_once s.device.counts) refl refl first (fact ∷ []) refl (tt, tt) was.failed was;
-      keeps = record { sizes = refl; counts = none_falls_at_once s.device.counts; cut = λ lit dark. absurd (let e : true ≡ false = sym lit ∙ dark in cc e); log = refl; room = record { most = refl; long = refl }; descriptor = refl; origin = refl; power = inl refl };
+      keeps = record { sizes = refl; counts = none_falls_at_once s.device.counts; cut = λ lit dark. absurd (let e : true ≡ false = sym lit ∙ dark in cc e); log = refl; room = record { most = refl; long = refl }; descriptor = refl; origin = origin_same refl; power = inl refl };
     };
+    origin = refl;
     orders = refl;
     copy = λ none. none;
   }

@@ -1,6 +1,8 @@
 -- What turns and calls leave of a session, from one moment of it to a later one.
 use Rattle.std.specs.Prelude.{◌≡◌, ◌⊎◌, ◌<◌, ℕ, true, false, [], List, None}
+use Rattle.lvm_num.specs.declared.place.Pp.{Pp}
 use Rattle.lvm_num.specs.declared.descriptor.Descriptor.{Descriptor}
+use Rattle.lvm_num.specs.Status.{calls_stale}
 use Rattle.lvm_disk.specs.Counts.{NoneFalls, Rose}
 use Rattle.lvm_disk.specs.Device.{Device, Image, MayLeave}
 use Rattle.lvm_vol.specs.Facts.{Fact}
@@ -10,6 +12,8 @@ use Rattle.lvm_kept.specs.Group.{IsFound}
 use Rattle.lvm_steps.specs.Behind.{beginning_at}
 use Rattle.lvm_steps.specs.Laws.{LeavesBefore}
 use Rattle.lvm_session.specs.declared.open.Power.TheVariants as power
+use Rattle.lvm_status.specs.Table.{SameMissing}
+use Rattle.lvm_session.specs.declared.origin.Origin.{Origin}
 use Rattle.lvm_session.specs.State.{Core, State}
 use Rattle.lvm_keeps_events.specs.Telling.{SameRoom}
 use Rattle.lvm_tie.specs.GoingOn.{SessionGoesOn}
@@ -46,6 +50,12 @@ GoesOnOrEnds old new = (new.power ≡ old.power) ⊎ (new.power ≡ power.Dark) 
 abbrev pub GoesOffByCut : Device → Device → Type 0
 GoesOffByCut old new = old.power ≡ true → new.power ≡ false → Rose old.counts.cuts new.counts.cuts
 
+-- The counts of faults at its beginning stay, so does what was missing then, and what counted as stale then does so.
+pub record KeepsOrigin (old new : Origin) : Type 0 where
+  pub faults : new.faults ≡ old.faults
+  pub missing : SameMissing old.table new.table
+  pub stale : (p : Pp) → calls_stale old.table p ≡ true → calls_stale new.table p ≡ true
+
 -- It is of the group, the run and the rooms that it was given, on disks as large, whose counts never fall and whose power goes off by a cut alone.
 pub record KeepsShape (old new : State) : Type 0 where
   pub sizes : new.device.sizes ≡ old.device.sizes
@@ -54,7 +64,7 @@ pub record KeepsShape (old new : State) : Type 0 where
   pub log : record new.core.history { facts = [] } ≡ record old.core.history { facts = [] }
   pub room : SameRoom old.core new.core
   pub descriptor : new.core.descriptor ≡ old.core.descriptor
-  pub origin : new.core.origin ≡ old.core.origin
+  pub origin : KeepsOrigin old.core.origin new.core.origin
   pub power : GoesOnOrEnds old.core new.core
 
 -- ---- all of it
@@ -73,5 +83,6 @@ pub record LeavesSession (old new : State) : Type 0 where
 -- And where no order was given and no copy was opened.
 pub record RunsOn (old new : State) : Type 0 where
   pub leaves : LeavesSession old new
+  pub origin : new.core.origin ≡ old.core.origin
   pub orders : new.device.orders ≡ old.device.orders
   pub copy : old.core.copy ≡ None → new.core.copy ≡ None

@@ -1,9 +1,9 @@
 -- The calls of a client enter no landing, but where the power is cut.
-use Rattle.std.proofs.Common.{◌≡◌, ℕ, Bool, true, false, ◌&&◌, List, [], ◌∷◌, Option, Some, None, refl, sym, ap, subst, ◌∙◌, ◌⊎◌, inl, inr, not, ◌||◌, append-nil}
+use Rattle.std.proofs.Common.{◌≡◌, ℕ, Bool, true, false, ◌&&◌, List, [], ◌∷◌, Option, Some, None, refl, sym, ap, subst, ◌∙◌, ◌⊎◌, inl, inr, ◌||◌, append-nil}
 use Rattle.std.specs.Prelude.{MatchOption, map, position, if◌then◌else◌, Result, Ok, Err}
 use Rattle.std.specs.List.{AllByRecursion}
 use Rattle.lvm_num.specs.Descriptor.{is_pp}
-use Rattle.lvm_num.specs.Status.{calls_missing, calls_stale}
+use Rattle.lvm_num.specs.Status.{calls_stale}
 use Rattle.lvm_num.specs.declared.place.Pp.{Pp}
 use Rattle.lvm_num.proofs.Lists.{all_push}
 use Rattle.lvm_disk.specs.declared.shelf.Arrange.{Arrange}
@@ -31,7 +31,8 @@ use Rattle.lvm_session.specs.Turns.{ArrangesSession}
 use Rattle.lvm_keeps_events.proofs.passed.Names.{all_mapped, all_removed}
 use Rattle.lvm_tie.specs.Landings.{CallsKeepCauses, FailuresAreCaused, HasCausesSince}
 use Rattle.lvm_tie.proofs.SessionEndsLemmas.Grounds.{ground}
-use Rattle.lvm_tie.proofs.LandingsLemmas.Causes.{KeepsOrigin, dark_caused, goes_on, goes_on_from, stays_caused, stays_with}
+use Rattle.lvm_tie.specs.Running.{KeepsOrigin}
+use Rattle.lvm_tie.proofs.LandingsLemmas.Causes.{dark_caused, goes_on, goes_on_from, stays_caused, stays_with}
 
 module _ (first : List Fact) (s : State) (new : Core) (was : HasCausesSince first s) where
   -- nothing of it changes
@@ -82,16 +83,12 @@ module _ (first : List Fact) (s : State) (new : Core) (was : HasCausesSince firs
       by (Some why) it = same_caused (ap ground it.1)
 
   -- the destination of a move counts as stale since the session began
-  origin_kept : (to : Pp) → CallsStale to s.core.origin new.origin → KeepsOrigin s.core new
-  origin_kept to called = record {
-    faults = called.faults;
-    unusable = λ p was. (λ t. not (called.table.stale p t) && not (called.table.missing p.disk t)) ∙ less (calls_stale s.core.origin.table p) (is_pp p to) (calls_missing s.core.origin.table p.disk) was;
-  }
+  origin_kept : (to : Pp) → CallsStale to s.core.origin new.origin → KeepsOrigin s.core.origin new.origin
+  origin_kept to called = record { faults = called.faults; missing = called.table.missing; stale = λ p was. called.table.stale p ∙ or_so (calls_stale s.core.origin.table p) (is_pp p to) was }
     where
-      less : (a b m : Bool) → (not a && not m) ≡ false → (not (a || b) && not m) ≡ false
-      less true b m h = refl
-      less false true m h = refl
-      less false false m h = h
+      or_so : (a b : Bool) → a ≡ true → a || b ≡ true
+      or_so true b h = refl
+      or_so false b h = absurd (cc h)
 
   move_caused : (counts : Counts) (lv lp number : ℕ) (to : Pp) → OpensMove counts s.core new lv lp number to → HasCausesSince first (state s.device new)
   move_caused counts lv lp number to it =

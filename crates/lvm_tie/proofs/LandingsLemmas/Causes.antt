@@ -47,7 +47,7 @@ use Rattle.lvm_session.specs.Ends.{DataLearns, Ends, EndsAs, Learns, learned}
 use Rattle.lvm_session.specs.Events.{Lands, admitted_as, begun_as, got_blocks, landed_as}
 use Rattle.lvm_session.specs.Marks.{is_among}
 use Rattle.lvm_session.specs.Turns.{Darkens, FinishMakes, Finishes, GoesOff, Makes, Moves, NoStart, OnMakes, TurnMakes, WasDark, WasOff, WasOn}
-use Rattle.lvm_session.specs.Causes.{AnyFailedSince, AreCaused, AreCounted, TargetHasFailed, IsCaused, IsCounted, IsLandedFor, faults_at_first, is_blamed, was_usable}
+use Rattle.lvm_session.specs.Causes.{was_fresh, AnyFailedSince, AreCaused, AreCounted, TargetHasFailed, IsCaused, IsCounted, IsLandedFor, faults_at_first, is_blamed, was_usable}
 use Rattle.lvm_session.specs.Requests.{IsOpenOne}
 use Rattle.lvm_session.specs.Sound.{IsAsked, IsSound}
 use Rattle.lvm_keeps_events.proofs.passed.Names.{landing_is_caused, all_set, loss_is_caused, both}
@@ -55,17 +55,22 @@ use Rattle.lvm_keeps_events.proofs.EndsLemmas.CopyReadFail.{some_at}
 use Rattle.lvm_keeps_events.proofs.EndsLemmas.Counts.{rose_on, rose_since}
 use Rattle.lvm_keeps_events.proofs.RequestsLemmas.{waits}
 use Rattle.lvm_keeps_events.proofs.OnePlace.{among_at}
+use Rattle.lvm_tie.specs.Running.{KeepsOrigin}
 use Rattle.lvm_tie.specs.Landings.{BeginningHasCauses, FailuresAreCaused, HadNone, HasCausesSince, HasLandedFor, IsEntryCaused, TurnKeepsCauses}
 use Rattle.lvm_tie.proofs.SessionEndsLemmas.Grounds.{Ground, ground, ground_with, learned_same}
 
 -- ---- what was a cause goes on to be one
 
--- the counts of faults at the beginning are the same, and what couldn't be used then can't
-pub record KeepsOrigin (old new : Core) : Type 0 where
-  pub faults : new.origin.faults ≡ old.origin.faults
-  pub unusable : (p : Pp) → was_usable old p ≡ false → was_usable new p ≡ false
+-- what couldn't be used at the beginning can't
+unusable_on : (old new : Core) → KeepsOrigin old.origin new.origin → (p : Pp) → was_usable old p ≡ false → was_usable new p ≡ false
+unusable_on old new origin p was = ap (λ b. was_fresh new p && not b) (origin.missing p.disk) ∙ less (calls_stale old.origin.table p) (calls_stale new.origin.table p) (calls_missing old.origin.table p.disk) (origin.stale p) was
+  where
+    less : (a b m : Bool) → (a ≡ true → b ≡ true) → (not a && not m) ≡ false → (not b && not m) ≡ false
+    less true b m so h = ap (λ x. not x && not m) (so refl)
+    less false true m so h = refl
+    less false false m so h = h
 
-module _ (old new : State) (more : NoneFalls old.device.counts new.device.counts) (descriptor : new.core.descriptor ≡ old.core.descriptor) (origin : KeepsOrigin old.core new.core) where
+module _ (old new : State) (more : NoneFalls old.device.counts new.device.counts) (descriptor : new.core.descriptor ≡ old.core.descriptor) (origin : KeepsOrigin old.core.origin new.core.origin) where
   failed_on : AnyFailedSince old → AnyFailedSince new
   failed_on it = (
     it.0,
@@ -75,7 +80,7 @@ module _ (old new : State) (more : NoneFalls old.device.counts new.device.counts
 
   none_on : (r : Asked) → HadNone old.core r → HadNone new.core r
   none_on r none lv b p over among =
-      origin.unusable p (none lv b p over (ap (λ (d : Descriptor). is_among (copies_in d lv (partition_of d.mib b)) p) (sym descriptor) ∙ among))
+      unusable_on old.core new.core origin p (none lv b p over (ap (λ (d : Descriptor). is_among (copies_in d lv (partition_of d.mib b)) p) (sym descriptor) ∙ among))
 
   landed_on : (r : Asked) (how : Outcome) → HasLandedFor old r how → HasLandedFor new r how
   landed_on r outcome.Lost why = failed_on why
@@ -115,7 +120,8 @@ pub goes_on : (old new : State) → NoneFalls old.device.counts new.device.count
     → (new.core.power ≡ power.On → AllByRecursion (FailuresAreCaused new.device) new.core.requests) → HasCausesSince first old → HasCausesSince first new
 goes_on old new more descriptor origin = goes_on_from old new more descriptor (record {
   faults = ap (λ (o : Origin). o.faults) origin;
-  unusable = λ p was. ap (λ (o : Origin). not (calls_stale o.table p) && not (calls_missing o.table p.disk)) origin ∙ was;
+  missing = λ disk. ap (λ (o : Origin). calls_missing o.table disk) origin;
+  stale = λ p was. ap (λ (o : Origin). calls_stale o.table p) origin ∙ was;
 })
 
 -- a disk that has failed has failed later too

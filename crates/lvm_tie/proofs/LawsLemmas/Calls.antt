@@ -1,6 +1,9 @@
 -- Each call of a client runs a session on, and an order to the shelf leaves the rest of it.
-use Rattle.std.proofs.Common.{◌≡◌, inl, inr, ℕ, Bool, true, false, ◌&&◌, List, length, Option, Some, None, refl, sym, ap, subst, ◌∙◌}
+use Rattle.std.proofs.Common.{◌≡◌, inl, inr, ℕ, Bool, true, false, ◌&&◌, List, length, Option, Some, None, refl, sym, ap, subst, ◌∙◌, ◌⊎◌, ◌||◌}
 use Rattle.std.specs.Prelude.{◌<◌, Err, MatchOption, Ok, Result, if◌then◌else◌, position}
+use Rattle.lvm_num.specs.declared.place.Pp.{Pp}
+use Rattle.lvm_num.specs.Descriptor.{is_pp}
+use Rattle.lvm_num.specs.Status.{calls_stale}
 use Rattle.lvm_disk.specs.declared.shelf.Arrange.{Arrange}
 use Rattle.lvm_disk.specs.declared.shelf.Arrange.TheVariants as arrange
 use Rattle.lvm_disk.specs.Counts.{Counts, NoneFalls}
@@ -16,13 +19,15 @@ use Rattle.lvm_status.specs.Update.{Stored}
 use Rattle.lvm_path.specs.declared.ask.Ask.{Ask}
 use Rattle.lvm_session.specs.declared.answers.AskFault.{AskFault}
 use Rattle.lvm_session.specs.declared.answers.CopyFault.{CopyFault}
+use Rattle.lvm_session.specs.declared.answers.OpenFault.{OpenFault}
+use Rattle.lvm_session.specs.declared.answers.OpenFault.TheVariants as denial
 use Rattle.lvm_session.specs.declared.answers.Taken.{Taken}
 use Rattle.lvm_session.specs.declared.answers.Taken.TheVariants as answered
 use Rattle.lvm_session.specs.declared.bringing.OpenCopy.{OpenCopy}
 use Rattle.lvm_session.specs.declared.open.Open.{Open}
 use Rattle.lvm_session.specs.declared.open.Power.{Power}
 use Rattle.lvm_session.specs.Bringing.{with_back}
-use Rattle.lvm_session.specs.Calls.{OpenGives, Opens, SubmitGives, TakeAt, TakeGives, TakesLanded, ask_fault, copy_fault, is_asked, submitted}
+use Rattle.lvm_session.specs.Calls.{OpenGives, OpenMoveGives, Opens, OpensMove, move_fault, SubmitGives, TakeAt, TakeGives, TakesLanded, ask_fault, copy_fault, is_asked, submitted}
 use Rattle.lvm_session.specs.Dark.{all_dark, hand_of_copy, is_cut}
 use Rattle.lvm_session.specs.State.{Core, State, state}
 use Rattle.lvm_session.specs.Sound.{IsSound}
@@ -33,13 +38,13 @@ use Rattle.lvm_tie.specs.Landings.{HasCausesSince}
 use Rattle.lvm_tie.specs.Spares.{LeavesDescriptors, SparesDescriptors}
 use Rattle.lvm_tie.specs.Stamps.{IsStamped, KeepsEpoch, StaysOf}
 use Rattle.lvm_tie.proofs.LandingsLemmas.Calls.{calls_keep_causes}
-use Rattle.lvm_tie.proofs.GoingOnLemmas.CallsTurn.{answer_goes_on, arrange_goes_on, close_goes_on, open_goes_on, submit_goes_on}
+use Rattle.lvm_tie.proofs.GoingOnLemmas.CallsTurn.{answer_goes_on, arrange_goes_on, close_goes_on, open_goes_on, open_move_goes_on, submit_goes_on}
 use Rattle.lvm_tie.proofs.SparesLemmas.{calls_spare_descriptors}
 use Rattle.lvm_tie.proofs.StampsLemmas.{arrange_leaves_before, calls_stay}
 use Rattle.lvm_vol.specs.Facts.{Fact}
 use Rattle.lvm_tie.specs.Laws.{CallsRunOn}
-use Rattle.lvm_tie.specs.Running.{GoesOffByCut, GoesOnOrEnds, KeepsShape, LeavesSession, MayFindNoMore}
-use Rattle.lvm_tie.proofs.LawsLemmas.Running.{keeps_power, was_lit}
+use Rattle.lvm_tie.specs.Running.{GoesOffByCut, GoesOnOrEnds, KeepsOrigin, KeepsShape, LeavesSession, MayFindNoMore}
+use Rattle.lvm_tie.proofs.LawsLemmas.Running.{keeps_power, origin_same, was_lit}
 use Rattle.lvm_tie.proofs.RunningLemmas.Shapes.{Given, dark_given, given}
 use Rattle.lvm_tie.proofs.RunningLemmas.Shelves.{fewer_leaves}
 
@@ -66,33 +71,39 @@ module _ (s : State) (new : Core) where
   abbrev after : State
   after = state s.device new
 
-  keeps_of : shape new ≡ shape s.core → KeepsShape s after
-  keeps_of same = record {
+  keeps_of : KeepsOrigin s.core.origin new.origin → shape (record new { origin = s.core.origin }) ≡ shape s.core → KeepsShape s after
+  keeps_of origin same = record {
     sizes = refl;
     counts = none_falls_at_once s.device.counts;
     cut = keeps_power s.device s.device refl;
     log = ap (λ (x : Shape). x.0.2) same;
     room = record { most = ap (λ (x : Shape). x.1) same; long = ap (λ (x : Shape). x.2) same };
     descriptor = ap (λ (x : Shape). x.0.0) same;
-    origin = ap (λ (x : Shape). x.0.1) same;
+    origin = origin;
     power = inl (ap (λ (x : Shape). x.3) same);
   }
 
   -- the shelf is as it was, and the status
-  call_leaves : SessionGoesOn s.core.history.run s after → (SparesDescriptors s → SparesDescriptors after) → StaysOf s.core new → ((first : List Fact) → HasCausesSince first s → HasCausesSince first after)
-      → shape new ≡ shape s.core → LeavesSession s after
-  call_leaves good spares stays causes same = record {
+  call_leaves_but : SessionGoesOn s.core.history.run s after → (SparesDescriptors s → SparesDescriptors after) → StaysOf s.core new → ((first : List Fact) → HasCausesSince first s → HasCausesSince first after)
+      → KeepsOrigin s.core.origin new.origin → shape (record new { origin = s.core.origin }) ≡ shape s.core → LeavesSession s after
+  call_leaves_but good spares stays causes origin same = record {
     good = good;
     descriptors = λ leaves. record { leaves = leaves; spares = spares; finds = λ id k image may found. (image, may, found) };
     before = λ moment was. record {
       leaves = was.leaves;
-      session = λ lit. subst (λ (status : Stored). IsStamped status × (status.stamp.epoch < moment)) (sym stays.status) (was.session (was_lit s.core new (keeps_of same).power lit));
+      session = λ lit. subst (λ (status : Stored). IsStamped status × (status.stamp.epoch < moment)) (sym stays.status) (was.session (was_lit s.core new (keeps_of origin same).power lit));
     };
     epoch = λ lit. subst (KeepsEpoch s.core.status) (sym stays.status) (record { epoch = refl; stamped = λ is. is });
     later = stays.later;
     causes = causes;
-    keeps = keeps_of same;
+    keeps = keeps_of origin same;
   }
+
+  -- so where its origin is as it was
+  call_leaves : SessionGoesOn s.core.history.run s after → (SparesDescriptors s → SparesDescriptors after) → StaysOf s.core new → ((first : List Fact) → HasCausesSince first s → HasCausesSince first after)
+      → shape new ≡ shape s.core → LeavesSession s after
+  call_leaves good spares stays causes same = call_leaves_but good spares stays causes (origin_same (ap (λ (x : Shape). x.0.1) same))
+      (ap (λ (x : Shape). let y : Shape = ((x.0.0, s.core.origin, x.0.2), x.1, x.2, x.3) in y) same)
 
 submit_frame : (old new : Core) (client : ℕ) (ask : Ask) (bytes : Option (List ℕ)) (answer : Result ℕ AskFault) → SubmitGives old new client ask bytes answer → frame new ≡ frame old
 submit_frame old new client ask bytes answer = by (ask_fault old ask)
@@ -118,6 +129,29 @@ open_shape counts old new lv lp number answer = by (copy_fault old lv lp number)
     by : (m : Option CopyFault) → MatchOption m ((answer ≡ Ok tt) × Opens counts old new lv lp number) (λ (why : CopyFault). (answer ≡ Err why) × (new ≡ old)) → shape new ≡ shape old
     by None it = ap shape it.1.is
     by (Some why) it = ap shape it.1
+
+-- what the opening of a move leaves of it, but for its origin
+record MoveLeaves (old new : Core) : Type 0 where
+  origin : KeepsOrigin old.origin new.origin
+  rest : shape (record new { origin = old.origin }) ≡ shape old
+
+move_leaves : (counts : Counts) (old new : Core) (lv lp number : ℕ) (to : Pp) (answered : Result (Unit {0}) OpenFault) → OpenMoveGives counts old new lv lp number to answered → MoveLeaves old new
+move_leaves counts old new lv lp number to answered = by (move_fault old lv lp number to)
+  where
+    same_left : new ≡ old → MoveLeaves old new
+    same_left same = record { origin = origin_same (ap (λ (c : Core). c.origin) same); rest = ap (λ (c : Core). shape (record c { origin = old.origin })) same }
+
+    or_so : (a b : Bool) → a ≡ true → a || b ≡ true
+    or_so true b h = refl
+    or_so false b h = absurd (cc h)
+
+    by : (m : Option OpenFault) → MatchOption m (((answered ≡ Ok tt) × OpensMove counts old new lv lp number to) ⊎ ((answered ≡ Err denial.Memory) × (new ≡ old))) (λ (why : OpenFault). (answered ≡ Err why) × (new ≡ old)) → MoveLeaves old new
+    by None (inl it) = record {
+      origin = record { faults = it.1.called.faults; missing = it.1.called.table.missing; stale = λ p was. it.1.called.table.stale p ∙ or_so (calls_stale old.origin.table p) (is_pp p to) was };
+      rest = ap (λ (c : Core). shape (record c { origin = old.origin })) it.1.is;
+    }
+    by None (inr it) = same_left it.1
+    by (Some why) it = same_left it.1
 
 -- ---- an order to the shelf
 
@@ -206,7 +240,7 @@ module _ (old new : State) (what : Arrange) (done : Bool) (it : ArrangesSession 
       log = ap (λ (g : Given). g.2) order_core.given_is;
       room = record { most = order_core.most; long = order_core.long };
       descriptor = ap (λ (g : Given). g.0) order_core.given_is;
-      origin = ap (λ (g : Given). g.1) order_core.given_is;
+      origin = origin_same (ap (λ (g : Given). g.1) order_core.given_is);
       power = order_core.power;
     };
   }
@@ -219,6 +253,7 @@ calls_run_on = record {
     leaves = call_leaves s new (submit_goes_on s.core.history.run s new client ask bytes answer unstuck sound asks gives) (calls_spare_descriptors.submit client ask bytes answer s new gives)
         (calls_stay.submit client ask bytes answer s.core new gives) (λ first has. calls_keep_causes.submit client ask bytes answer first s new gives has)
         (ap (λ (f : Frame). f.0) (submit_frame s.core new client ask bytes answer gives));
+    origin = ap (λ (f : Frame). f.0.0.1) (submit_frame s.core new client ask bytes answer gives);
     orders = refl;
     copy = frame_none s.core new (submit_frame s.core new client ask bytes answer gives);
   };
@@ -226,12 +261,14 @@ calls_run_on = record {
     leaves = call_leaves s new (answer_goes_on s new client id answer was_sound sound gives) (calls_spare_descriptors.take client id answer s new gives)
         (calls_stay.take client id answer s.core new gives) (λ first has. calls_keep_causes.take client id answer first s new gives has)
         (ap (λ (f : Frame). f.0) (take_frame s.core new client id answer gives));
+    origin = ap (λ (f : Frame). f.0.0.1) (take_frame s.core new client id answer gives);
     orders = refl;
     copy = frame_none s.core new (take_frame s.core new client id answer gives);
   };
   close_copy = λ s new sound closes. record {
     leaves = call_leaves s new (close_goes_on s.core.history.run s new sound closes) (calls_spare_descriptors.close_copy s new closes)
         (calls_stay.close_copy s.core new closes) (λ first has. calls_keep_causes.close_copy first s new closes has) (ap shape closes.is);
+    origin = ap (λ (c : Core). c.origin) closes.is;
     orders = refl;
     copy = λ none. ap (λ (c : Core). c.copy) closes.is;
   };
@@ -239,5 +276,9 @@ calls_run_on = record {
       call_leaves s new (open_goes_on s.core.history.run s new counts lv lp number answer sound gives) (calls_spare_descriptors.open_copy counts lv lp number answer s new gives)
       (calls_stay.open_copy counts lv lp number answer s.core new gives) (λ first has. calls_keep_causes.open_copy counts lv lp number answer first s new gives has)
       (open_shape counts s.core new lv lp number answer gives);
+  open_move = λ s new counts lv lp number to answer sound gives.
+      let left = move_leaves counts s.core new lv lp number to answer gives in
+      call_leaves_but s new (open_move_goes_on s.core.history.run s new counts lv lp number to answer sound gives) (calls_spare_descriptors.open_move counts lv lp number to answer s new gives)
+      (calls_stay.open_move counts lv lp number to answer s.core new gives) (λ first has. calls_keep_causes.open_move counts lv lp number to answer first s new gives has) left.origin left.rest;
   arrange = λ old new what done was_sound sound it. order_leaves old new what done it was_sound sound;
 }

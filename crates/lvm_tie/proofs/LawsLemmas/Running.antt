@@ -4,12 +4,14 @@ use Rattle.lvm_disk.specs.Counts.{NoneFalls, Rose}
 use Rattle.lvm_disk.specs.Device.{Device}
 use Rattle.lvm_disk.proofs.CountingLemmas.{none_falls_at_once, none_falls_on, rose_after, rose_before}
 use Rattle.lvm_vol.specs.Log.{Log}
+use Rattle.lvm_num.specs.Status.{calls_missing, calls_stale}
+use Rattle.lvm_session.specs.declared.origin.Origin.{Origin}
 use Rattle.lvm_session.specs.declared.open.Power.TheVariants as power
 use Rattle.lvm_session.specs.State.{Core, State}
 use Rattle.lvm_tie.specs.GoingOn.{SessionGoesOn}
 use Rattle.lvm_tie.proofs.GoingOnLemmas.Spanning.{goes_same, goes_then}
 use Rattle.lvm_tie.specs.Laws.{RunsJoin}
-use Rattle.lvm_tie.specs.Running.{GoesOffByCut, GoesOnOrEnds, KeepsShape, LeavesSession, RunsOn}
+use Rattle.lvm_tie.specs.Running.{GoesOffByCut, GoesOnOrEnds, KeepsOrigin, KeepsShape, LeavesSession, RunsOn}
 
 -- ---- whether it goes on
 
@@ -59,6 +61,18 @@ cut_both old mid new first last one two lit off = by mid.power refl
 pub run_is : (old new : State) → KeepsShape old new → new.core.history.run ≡ old.core.history.run
 run_is old new keeps = ap (λ (log : Log). log.run) keeps.log
 
+-- ---- its origin
+
+pub origin_same : {old new : Origin} → new ≡ old → KeepsOrigin old new
+origin_same same = record {
+  faults = ap (λ (o : Origin). o.faults) same;
+  missing = λ disk. ap (λ (o : Origin). calls_missing o.table disk) same;
+  stale = λ p was. ap (λ (o : Origin). calls_stale o.table p) same ∙ was;
+}
+
+origin_both : {old mid new : Origin} → KeepsOrigin old mid → KeepsOrigin mid new → KeepsOrigin old new
+origin_both one two = record { faults = two.faults ∙ one.faults; missing = λ disk. two.missing disk ∙ one.missing disk; stale = λ p was. two.stale p (one.stale p was) }
+
 -- ---- nothing happens
 
 pub leaves_none : (s : State) → LeavesSession s s
@@ -69,11 +83,11 @@ leaves_none s = record {
   epoch = λ lit. record { epoch = refl; stamped = λ is. is };
   later = λ moment was. was;
   causes = λ first has. has;
-  keeps = record { sizes = refl; counts = none_falls_at_once s.device.counts; cut = keeps_power s.device s.device refl; log = refl; room = record { most = refl; long = refl }; descriptor = refl; origin = refl; power = inl refl };
+  keeps = record { sizes = refl; counts = none_falls_at_once s.device.counts; cut = keeps_power s.device s.device refl; log = refl; room = record { most = refl; long = refl }; descriptor = refl; origin = origin_same refl; power = inl refl };
 }
 
 pub runs_none : (s : State) → RunsOn s s
-runs_none s = record { leaves = leaves_none s; orders = refl; copy = λ none. none }
+runs_none s = record { leaves = leaves_none s; origin = refl; orders = refl; copy = λ none. none }
 
 pub runs_same : (old new : State) → new ≡ old → RunsOn old new
 runs_same old new same = subst (RunsOn old) (sym same) (runs_none old)
@@ -88,7 +102,7 @@ keeps_both old mid new one two = record {
   log = two.log ∙ one.log;
   room = record { most = two.room.most ∙ one.room.most; long = two.room.long ∙ one.room.long };
   descriptor = two.descriptor ∙ one.descriptor;
-  origin = two.origin ∙ one.origin;
+  origin = origin_both one.origin two.origin;
   power = ends_on old.core mid.core new.core one.power two.power;
 }
 
@@ -116,6 +130,7 @@ leaves_both old mid new one two = record {
 pub runs_both : (old mid new : State) → RunsOn old mid → RunsOn mid new → RunsOn old new
 runs_both old mid new one two = record {
   leaves = leaves_both old mid new one.leaves two.leaves;
+  origin = two.origin ∙ one.origin;
   orders = two.orders ∙ one.orders;
   copy = λ none. two.copy (one.copy none);
 }

@@ -18,7 +18,7 @@ use Rattle.lvm_tie.proofs.StampsLemmas.{turn_is_earlier, turn_keeps_epoch, turn_
 use Rattle.lvm_tie.proofs.GoingOnLemmas.Turning.{turn_goes_on}
 use Rattle.lvm_tie.specs.Laws.{TurnRunsOn}
 use Rattle.lvm_tie.specs.Running.{IsBefore, KeepsShape, LeavesSession}
-use Rattle.lvm_tie.proofs.LawsLemmas.Running.{was_lit}
+use Rattle.lvm_tie.proofs.LawsLemmas.Running.{origin_same, was_lit}
 use Rattle.lvm_tie.proofs.RunningLemmas.Shapes.{Given, turn_goes}
 use Rattle.lvm_tie.proofs.RunningLemmas.Shelves.{turn_steps}
 
@@ -34,7 +34,7 @@ module _ (old new : State) (answer : Turned) (was_sound : IsSound old) (sound : 
         log = ap (λ (g : Given). g.2) goes.given_is;
         room = turn_room old new answer made;
         descriptor = ap (λ (g : Given). g.0) goes.given_is;
-        origin = ap (λ (g : Given). g.1) goes.given_is;
+        origin = origin_same (ap (λ (g : Given). g.1) goes.given_is);
         power = goes.power;
       }
 
@@ -74,6 +74,7 @@ module _ (old new : State) (answer : Turned) (was_sound : IsSound old) (sound : 
 pub turn_runs_on : TurnRunsOn
 turn_runs_on old new answer was_sound sound sectors valid made = record {
   leaves = leaves old new answer was_sound sound valid made sectors;
+  origin = ap (λ (g : Given). g.1) (turn_goes old new answer made).given_is;
   orders = (turn_steps old new was_sound valid answer made).orders;
   copy = (turn_goes old new answer made).copy;
 }
