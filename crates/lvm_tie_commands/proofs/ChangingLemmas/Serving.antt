@@ -80,7 +80,7 @@ module _ (next : Descriptor) (before after : ℕ) (old new : State) (sound : IsS
         let many = many_bound old.core sound.fitting.valid sound.fitting.group in
         let most = leaves.numbers.most in
         let left : 65536 ≤ 2 ^ 32 - 1 - old.core.status.stamp.seq = may.room.numbers in
-        let updates : updates_left new.core ≤ 640 = few_updates new.core valid on.quiet.requests on.quiet.copy in
+        let updates : updates_left new.core ≤ 129 = few_updates new.core valid on.quiet.requests on.quiet.copy in
         omega (arith, many, most, left, updates);
     left = still.left (none_before old sound began);
     stays = leaves.status.stays;
