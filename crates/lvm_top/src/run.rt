@@ -88,6 +88,7 @@ fn is_quiet(session: &Session) -> bool
 
 // A session, and whether nothing is under way in it, with no transfer out.
 fn at_rest<S: Shelf>(driver: Driver<S>) -> (Driver<S>, bool)
+    requires none { driver.1.copy ≡ None }
     ensures driver { result.0 ≡ driver }
     ensures rests { IsTrue result.1 ↔ HasNothingLeftOrOut (state_of S.device driver) }
 {
@@ -129,6 +130,7 @@ pub fn close_ended<S: Shelf>(driver: Driver<S>, posts: Vec<Post>, bytes: Vec<u8>
 // Makes what turns are left of a session, and closes it. Answers the shelf and the history.
 fn run_out<S: Shelf>(driver: Driver<S>, posts: Vec<Post>, bytes: Vec<u8>) -> Closed<S>
     requires on { driver.1.power ≡ power.On }
+    requires none { driver.1.copy ≡ None }
     ensures ends { RunsOut (state_of S.device driver) (record { device = S.device result.shelf; facts = result.history.facts }) }
     ensures rooms { without_facts result.history ≡ without_facts driver.1.history }
 {

@@ -48,7 +48,8 @@ use Rattle.lvm_tie_commands.specs.Sharing.{HoldTheSame, ShareContent}
 use Rattle.lvm_tie_commands.proofs.CommandsLemmas.Commands.{still_there}
 use Rattle.lvm_tie_commands.proofs.BeginsLemmas.{Held}
 use Rattle.lvm_tie_commands.proofs.CalmLemmas.{calm_since}
-use Rattle.lvm_tie_commands.proofs.CopiesLemmas.Sharing.{both_lists, data_stays, holds_one}
+use Rattle.lvm_tie_commands.proofs.CommandsLemmas.Records.{data_stays}
+use Rattle.lvm_tie_commands.proofs.CopiesLemmas.Sharing.{both_lists, holds_one}
 use Rattle.lvm_tie_commands.proofs.SettledLemmas.Leaving.{its_disks_hold, its_rest}
 use Rattle.lvm_tie_commands.proofs.Resting.{landed, rests}
 
