@@ -1,7 +1,7 @@
 //! The cache of track groups.
 ghost use Rattle.std.specs.Prelude.{◌≡◌, ◌≢◌, ◌+◌, ◌<◌, ◌≤◌, ◌^◌, [], ◌∷◌, ◌++◌, None, false, not, filter, position, IsTrue, IfOk, IsSome, IsNone, is_some, All, replicate, vec_capacity};
 ghost use Rattle.lvm_num.specs.Note.{IsEntry};
-ghost use Rattle.lvm_mwc.specs.Cache.{IsNew};
+ghost use Rattle.lvm_mwc.specs.Cache.{IsNew, no_notes};
 ghost use Rattle.lvm_mwc.specs.Notes.{AreDisks, disks_of, is_of_disk};
 
 use crate::forms::Entries;
@@ -52,6 +52,17 @@ impl Model for Cache {
     ghost invariant = { λ c. AreEntries c.entries × AreFilters c.notes.items c.filters.items × (c.disks.items ≡ disks_of c.notes.items) × AreDisks 128 c.disks.items × HasRoom (vec_capacity c.disks) (vec_capacity c.notes) (vec_capacity c.filters) };
 }
 
+// The notes of a disk, which name nothing.
+fn no_notes(disk: u16) -> DiskNotes
+    ensures { result ≡ no_notes disk }
+{
+    DiskNotes {
+        disk,
+        written: ArrayVec::new(),
+        flight: None,
+    }
+}
+
 // The notes of the disks of a set, which name nothing.
 fn blank_notes(alloc: Global, disks: DiskSet) -> Result<Vec<DiskNotes>, Memory>
     ensures new { IfOk result (λ notes. IsNew disks (record { entries = []; notes = notes.items })) }
@@ -62,11 +73,7 @@ fn blank_notes(alloc: Global, disks: DiskSet) -> Result<Vec<DiskNotes>, Memory>
     let mut notes = Vec::with_capacity(alloc, ROOM)?;
     for disk in 0..128 {
         if disks.has(disk) {
-            notes.push(DiskNotes {
-                disk,
-                written: ArrayVec::new(),
-                flight: None,
-            })?;
+            notes.push(no_notes(disk))?;
         }
     }
     Ok(notes)
@@ -84,7 +91,7 @@ fn closed_filters(alloc: Global, count: usize) -> Result<Vec<[bool; FILTER]>, Me
 
 impl Cache {
     ghost use Rattle.lvm_mwc.specs.Entries.{is_entry, pins_of, note_of, AreEntries};
-    ghost use Rattle.lvm_mwc.specs.Cache.{Cached, IsNew, has_disk, no_notes, flight_on, flight_names, is_named, pin_answer, after_pin, after_unpin, after_start, after_end};
+    ghost use Rattle.lvm_mwc.specs.Cache.{Cached, has_disk, flight_on, flight_names, is_named, pin_answer, after_pin, after_unpin, after_start, after_end};
 
     /// An empty cache for a set of disks, whose notes name nothing. It takes the memory of both forms of its
     /// entries. A pin of a new track group may ask for more, and does without where that is refused.
@@ -110,11 +117,7 @@ impl Cache {
         ensures { self.new ≡ record self.old { notes = self.old.notes ++ no_notes disk ∷ [] } }
     {
         self.disks.push_reserved(disk);
-        self.notes.push_reserved(DiskNotes {
-            disk,
-            written: ArrayVec::new(),
-            flight: None,
-        });
+        self.notes.push_reserved(no_notes(disk));
         self.filters.push_reserved([false; FILTER]);
     }
 

@@ -23,14 +23,44 @@ fn position_of(requests: &[Open], id: u64) -> Option<usize>
     requests.iter().position(|open| open.request.id == id)
 }
 
-// The place of the request of this number in the table.
-fn place_of(session: &Session, id: u64) -> usize
+// Looks for the request of this number through the table.
+fn searched_place(session: &Session, id: u64) -> usize
     requires { list_any (λ (o : Open). o.request.id == id) session.now.requests.items ≡ true }
     ensures { HasId session.now.requests.items result id }
 {
     match position_of(&session.requests, id) {
         Some(place) => place,
         None => unreachable!(),
+    }
+}
+
+// The place of the request of this number in the table.
+fn place_of(session: &Session, id: u64) -> usize
+    requires { list_any (λ (o : Open). o.request.id == id) session.now.requests.items ≡ true }
+    ensures { HasId session.now.requests.items result id }
+{
+    let likely = likely_place(&session.requests, id);
+    if stands_at(&session.requests, likely, id) {
+        return likely;
+    }
+    searched_place(session, id)
+}
+
+// Where it stands if all requests between it and the first are open.
+fn likely_place(requests: &[Open], id: u64) -> usize {
+    match requests.first() {
+        None => 0,
+        Some(first) => id.saturating_sub(first.request.id) as usize,
+    }
+}
+
+// Whether the request at a place, if there is one, has this number.
+fn stands_at(requests: &[Open], place: usize, id: u64) -> bool
+    ensures { result ≡ true → HasId requests.now place id }
+{
+    match requests.get(place) {
+        None => false,
+        Some(open) => open.request.id == id,
     }
 }
 

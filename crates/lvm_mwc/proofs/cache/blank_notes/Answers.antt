@@ -1,6 +1,4 @@
 use Rattle.std.proofs.Common.{◌≡◌, [], ap, sym, refl, true, false, arith}
-use Rattle.arrayvec.specs.ArrayVec.{ArrayVec}
-use Rattle.lvm_num.specs.declared.record.NoteEntry.{NoteEntry}
 use Rattle.lvm_num.specs.Disks.{has}
 use Rattle.std.proofs.lemmas.List.Elements.{All-push}
 use Rattle.lvm_mwc.specs.declared.notes.DiskNotes.{DiskNotes}
@@ -14,12 +12,11 @@ loop-disk-preserved c =
     elim c.if-has.branch [
       | then-has+in_ok-push w ↦
           let there : has c.args.disks c.loop-disk.disk ≡ true = sym w.if-has.ensures.member in
-          let written : w.new.result ≡ record { items = [] } = ap (λ items. let v : ArrayVec NoteEntry = record { items = items } in v) w.new.ensures in
           record {
-            first = rw (w.notes-is, w.in_ok-push.ensures.items, written) (one_more c.args.disks c.loop-disk.disk c.loop-disk.notes.items there c.loop-disk.invariant.first);
+            first = rw (w.notes-is, w.in_ok-push.ensures.items, w.no_notes.ensures) (one_more c.args.disks c.loop-disk.disk c.loop-disk.notes.items there c.loop-disk.invariant.first);
             few = λ _. c.has.ensures.disks;
-            blank = rw (w.notes-is, w.in_ok-push.ensures.items) (All-push (λ (n : DiskNotes). n.written.items ≡ []) c.loop-disk.notes.items _ c.loop-disk.invariant.blank w.new.ensures);
-            disks = rw (w.notes-is, w.in_ok-push.ensures.items, written) (next_disk c.loop-disk.disk c.loop-disk.notes.items c.loop-disk.invariant.disks);
+            blank = rw (w.notes-is, w.in_ok-push.ensures.items) (All-push (λ (n : DiskNotes). n.written.items ≡ []) c.loop-disk.notes.items _ c.loop-disk.invariant.blank (ap (λ (n : DiskNotes). n.written.items) w.no_notes.ensures));
+            disks = rw (w.notes-is, w.in_ok-push.ensures.items, w.no_notes.ensures) (next_disk c.loop-disk.disk c.loop-disk.notes.items c.loop-disk.invariant.disks);
             room = rw w.notes-is (omega (arith, w.in_ok-push.ensures.capacity, c.loop-disk.invariant.room));
           }
       | else-has w ↦

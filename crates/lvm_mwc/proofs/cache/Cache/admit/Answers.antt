@@ -1,4 +1,4 @@
-use Rattle.std.proofs.Common.{◌++◌, ◌∷◌, [], ℕ, List, None, length, ap, sym, subst, ◌∙◌, arith}
+use Rattle.std.proofs.Common.{◌≡◌, ◌++◌, ◌∷◌, [], ℕ, List, length, ap, sym, subst, ◌∙◌, arith}
 use Rattle.lvm_mwc.specs.declared.notes.DiskNotes.{DiskNotes}
 use Rattle.lvm_mwc.specs.Notes.{AreDisks, disks_of}
 use Rattle.lvm_mwc.proofs.CacheLemmas.{as_many, come_in_notes, one_comes, room_there, strange}
@@ -27,10 +27,11 @@ pub invariant_of-self : goal.invariant_of-self
 invariant_of-self c =
     let inside = c.self.inside in
     let apart = strange c.args.self.now inside.entries inside.notes.items inside.disks.items c.args.disk c.self.view_is c.self.invariant.2 c.requires.apart in
-    let row : DiskNotes = record { disk = c.args.disk; written = c.new.result; flight = None } in (
+    let row = c.no_notes.result in
+    let its : row.disk ≡ c.args.disk = ap (λ (n : DiskNotes). n.disk) c.no_notes.ensures in (
       c.self.invariant.0,
-      rw (c.push_reserved-2.ensures.items, c.push_reserved-3.ensures.items) (filters_more inside.notes.items inside.filters.items row _ c.self.invariant.1 c.new.ensures),
-      c.push_reserved.ensures.items ∙ ap (λ (l : List ℕ). l ++ c.args.disk ∷ []) c.self.invariant.2 ∙ come_in_notes inside.notes.items row ∙ sym (ap disks_of c.push_reserved-2.ensures.items),
+      rw (c.push_reserved-2.ensures.items, c.push_reserved-3.ensures.items) (filters_more inside.notes.items inside.filters.items row _ c.self.invariant.1 (ap (λ (n : DiskNotes). n.written.items) c.no_notes.ensures)),
+      c.push_reserved.ensures.items ∙ ap (λ (l : List ℕ). l ++ c.args.disk ∷ []) c.self.invariant.2 ∙ ap (λ (d : ℕ). disks_of inside.notes.items ++ d ∷ []) (sym its) ∙ come_in_notes inside.notes.items row ∙ sym (ap disks_of c.push_reserved-2.ensures.items),
       subst (AreDisks 128) (sym c.push_reserved.ensures.items) (one_comes inside.disks.items c.args.disk c.self.invariant.3 c.requires.disk apart),
       record {
         disks = omega (arith, c.push_reserved.ensures.capacity, c.self.invariant.4.disks);

@@ -2,7 +2,7 @@ use Rattle.std.proofs.Common.{◌≡◌, ◌==◌, List, sym, ◌∙◌, subst}
 use Rattle.std.specs.Prelude.{position}
 use Rattle.lvm_session.specs.declared.open.Open.{Open}
 use Rattle.lvm_session_turn.proofs.EndedLemmas.{has_id, never_none}
-use Rattle.lvm_session_turn.proofs.data.place_of.Goals as goal
+use Rattle.lvm_session_turn.proofs.data.searched_place.Goals as goal
 
 pub unreachable-requires : goal.unreachable-requires
 unreachable-requires c =
