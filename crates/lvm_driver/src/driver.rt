@@ -260,7 +260,8 @@ impl<S: Shelf> Driver<S> {
     /// Gives an order to the shelf: a disk fails or heals, or the power is cut, which ends the session. Answers
     /// whether the shelf takes such orders; one that doesn't changes nothing.
     pub fn arrange(&mut self, what: Arrange) -> bool
-        requires { MayArrange (S.device self.old.0) what }
+        requires unstuck { self.old.1.power ≡ power.Stuck → ⊥ }
+        requires may { MayArrange (S.device self.old.0) what }
         ensures gives { ArrangesSession (state_of S.device self.old) (state_of S.device self.new) what result }
         ensures leaves { LeavesSession (state_of S.device self.old) (state_of S.device self.new) }
     {

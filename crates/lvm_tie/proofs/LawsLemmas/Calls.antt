@@ -220,9 +220,9 @@ module _ (old new : State) (what : Arrange) (done : Bool) (it : ArrangesSession 
   stays : StaysOf old.core new.core
   stays = calls_stay.arrange old new what done it
 
-  order_leaves : IsSound old → IsSound new → LeavesSession old new
-  order_leaves was_sound sound = record {
-    good = arrange_goes_on old.core.history.run old new what done was_sound sound it;
+  order_leaves : (old.core.power ≡ power.Stuck → ⊥) → IsSound old → IsSound new → LeavesSession old new
+  order_leaves unstuck was_sound sound = record {
+    good = arrange_goes_on old.core.history.run old new what done unstuck was_sound sound it;
     descriptors = λ outside.
         let both = order_descriptors outside in
         record { leaves = both.0; spares = calls_spare_descriptors.arrange old new what done outside it; finds = both.1 };
