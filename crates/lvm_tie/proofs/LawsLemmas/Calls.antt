@@ -280,5 +280,5 @@ calls_run_on = record {
       let left = move_leaves counts s.core new lv lp number to answer gives in
       call_leaves_but s new (open_move_goes_on s.core.history.run s new counts lv lp number to answer sound gives) (calls_spare_descriptors.open_move counts lv lp number to answer s new gives)
       (calls_stay.open_move counts lv lp number to answer s.core new gives) (λ first has. calls_keep_causes.open_move counts lv lp number to answer first s new gives has) left.origin left.rest;
-  arrange = λ old new what done was_sound sound it. order_leaves old new what done it was_sound sound;
+  arrange = λ old new what done unstuck was_sound sound it. order_leaves old new what done it unstuck was_sound sound;
 }
