@@ -4,11 +4,17 @@ use Rattle.std.specs.List.{range_with_len}
 use Rattle.std.proofs.lemmas.List.{append-nil}
 
 module _ {X A : Type 0} (f : X → List A) where
+  flat_step : (xs : List X) (i : ℕ) (e : X) → i < length xs → flat_map f (take (suc i) xs) ≡ flat_map f (take i xs) ++ f (get_or xs i e)
+  flat_step [] i e lt = absurd (omega (arith, lt))
+  flat_step (x ∷ xs) zero e lt = append-nil (f x)
+  flat_step (x ∷ xs) (suc i) e lt = ap (λ l. f x ++ l) (flat_step xs i e (omega (arith, lt))) ∙ sym (append_assoc (f x) (flat_map f (take i xs)) (f (get_or xs i e)))
+
   -- the part of one element more
-  pub flat_more : (xs : List X) (i : ℕ) (e : X) → i < length xs → flat_map f (take (i + 1) xs) ≡ flat_map f (take i xs) ++ f (get_or xs i e)
-  flat_more [] i e lt = absurd (omega (arith, lt))
-  flat_more (x ∷ xs) zero e lt = append-nil (f x)
-  flat_more (x ∷ xs) (suc i) e lt = ap (λ l. f x ++ l) (flat_more xs i e (omega (arith, lt))) ∙ sym (append_assoc (f x) (flat_map f (take i xs)) (f (get_or xs i e)))
+  pub flat_more : (xs : List X) (i : ℕ) (e : X) (before after part : List A) → i < length xs → after ≡ before ++ part → before ≡ flat_map f (take i xs) → part ≡ f (get_or xs i e)
+      → after ≡ flat_map f (take (i + 1) xs)
+  flat_more xs i e before after part lt is so_far its =
+      let next : suc i ≡ i + 1 = omega arith in
+      is ∙ (λ t. so_far t ++ its t) ∙ sym (flat_step xs i e lt) ∙ ap (λ (n : ℕ). flat_map f (take n xs)) next
 
 module _ {A : Type 0} (f : ℕ → List A) where
   range_more : (a n : ℕ) → flat_map f (range_with_len a (suc n)) ≡ flat_map f (range_with_len a n) ++ f (a + n)

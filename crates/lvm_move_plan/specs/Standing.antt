@@ -1,5 +1,5 @@
 -- The copies that stand on a disk.
-use Rattle.std.specs.Prelude.{◌≡◌, ◌⊎◌, ℕ, ◌+◌, ◌<◌, Bool, true, ◌==◌, if◌then◌else◌, List, [], ◌∷◌, length, flat_map, Option, Some, None, slice_get}
+use Rattle.std.specs.Prelude.{◌≡◌, ◌⊎◌, ℕ, ◌+◌, ◌<◌, Bool, true, false, ◌==◌, if◌then◌else◌, List, [], ◌∷◌, flat_map, Option, Some, None, slice_get}
 use Rattle.std.specs.List.{range_with_len}
 use Rattle.std.specs.Option.{option_map_or}
 use Rattle.lvm_num.specs.declared.place.Pp.{Pp}
@@ -10,14 +10,17 @@ use Rattle.lvm_move_plan.specs.declared.standing.VolumeCopy.{VolumeCopy}
 
 -- ---- the list
 
+-- whether there is such a partition, on the disk
+abbrev pub is_on : ℕ → Option Pp → Bool
+is_on disk pp = option_map_or (λ (p : Pp). p.disk == disk) pp false
+
 -- a copy of a logical partition by its place, from 0, where it stands on the disk
 abbrev pub standing_at : ℕ → LvRow → ℕ → ℕ → List VolumeCopy
-standing_at disk row lp place =
-    option_map_or (λ (p : Pp). if p.disk == disk then record { lv = row.number; lp = lp; number = place + 1 } ∷ [] else []) (slice_get (copies_of row lp) place) []
+standing_at disk row lp place = if is_on disk (slice_get (copies_of row lp) place) then record { lv = row.number; lp = lp; number = place + 1 } ∷ [] else []
 
 -- those of a logical partition
 abbrev pub standing_with : ℕ → LvRow → ℕ → List VolumeCopy
-standing_with disk row lp = flat_map (standing_at disk row lp) (range_with_len 0 (length (copies_of row lp)))
+standing_with disk row lp = flat_map (standing_at disk row lp) (range_with_len 0 row.copies)
 
 -- those of a volume
 abbrev pub standing_in : ℕ → LvRow → List VolumeCopy

@@ -1,10 +1,11 @@
 //! The copies that stand on a disk.
-ghost use Rattle.std.specs.Prelude.{◌≡◌, ◌<◌, ◌++◌, All, IfOk};
+ghost use Rattle.std.specs.Prelude.{◌≡◌, ◌<◌, ◌++◌, All, IfOk, slice_get};
+ghost use Rattle.std.specs.Option.{option_copied};
 ghost use Rattle.lvm_num.specs.Descriptor.{IsLaidOut};
 ghost use Rattle.lvm_num.specs.declared.descriptor.LvRow.{LvRow};
-ghost use Rattle.lvm_move_plan.specs.Standing.{is_asked_for, standing_in, standing_of, standing_on, standing_with};
+ghost use Rattle.lvm_move_plan.specs.Standing.{is_asked_for, is_on, standing_in, standing_of, standing_on, standing_with};
 
-use lvm_num::{Descriptor, LvRow, Memory, copies_of};
+use lvm_num::{Descriptor, LvRow, Memory, Pp, copies_of};
 use std::alloc::Global;
 
 /// A copy of a logical partition of a volume.
@@ -79,14 +80,30 @@ fn add_partition(
     ensures { IfOk result (λ done. copies.new.items ≡ copies.old.items ++ standing_with disk row.now lp) }
 {
     let all = copies_of(row, lp);
-    for place in 0..all.len() {
-        if all[place].disk == disk {
+    for place in 0..row.copies {
+        if is_on(at(all, place), disk) {
             copies.push(VolumeCopy {
                 lv: row.number,
                 lp,
-                number: place as u8 + 1,
+                number: place + 1,
             })?;
         }
     }
     Ok(())
+}
+
+fn at(pps: &[Pp], place: u8) -> Option<&Pp>
+    ensures { option_copied result ≡ slice_get pps.now place }
+{
+    pps.get(usize::from(place))
+}
+
+// Whether there is such a partition, on the disk.
+fn is_on(pp: Option<&Pp>, disk: u16) -> bool
+    ensures { result ≡ is_on disk (option_copied pp.entry) }
+{
+    match pp {
+        None => false,
+        Some(pp) => pp.disk == disk,
+    }
 }
