@@ -6,7 +6,7 @@ ghost use Rattle.lvm_num.specs.Votes.{total_votes};
 ghost use Rattle.lvm_disk.specs.Steps.{MayArrange};
 ghost use Rattle.lvm_vol.specs.Log.{is_open, spare_entries};
 ghost use Rattle.lvm_session.specs.declared.open.Power.TheVariants as power;
-ghost use Rattle.lvm_session.specs.Judging.{is_waiting};
+ghost use Rattle.lvm_session.specs.Judging.{is_missing, is_waiting};
 ghost use Rattle.lvm_session.specs.Fields.{core_of};
 ghost use Rattle.lvm_session.specs.Rooms.{HasRooms, SameRooms};
 ghost use Rattle.lvm_session.specs.State.{state, votes_there, state_of};
@@ -33,7 +33,7 @@ use crate::dues::{all_due, submit, take};
 use crate::moves::{is_apart, prepare_move};
 use lvm_core::{Closed, CommitFault, Prepared, without_freed};
 use lvm_disk::{Arrange, Shelf};
-use lvm_due::left;
+use lvm_due::{is_missing, left};
 use lvm_history::History;
 use lvm_move::commit_move;
 use lvm_keeps_events::below::{close_copy, copy_state, open_copy, open_move};
@@ -363,6 +363,13 @@ impl<S: Shelf> Driver<S> {
         ensures { result.now ≡ self.now.1.status.committed }
     {
         self.session.updater.committed()
+    }
+
+    /// Whether a disk is missing: it didn't answer when the session began, or a write of a record to it has failed since.
+    pub fn is_missing(&self, disk: u16) -> bool
+        ensures { result ≡ is_missing self.now.1 disk }
+    {
+        is_missing(&self.session, disk)
     }
 
     /// How many requests are open: submitted, and their answers not taken.
