@@ -1,11 +1,13 @@
 //! The free partitions of a member.
 ghost use Rattle.std.specs.Prelude.{◌≡◌, IfOk};
+ghost use Rattle.std.specs.List.{list_any};
 ghost use Rattle.std.specs.Option.{option_copied};
+ghost use Rattle.lvm_num.specs.declared.descriptor.LvRow.{LvRow};
 ghost use Rattle.lvm_num.specs.Descriptor.{member_of, partitions_used};
 ghost use Rattle.lvm_map.specs.FirstFit.{free_of, is_among};
 ghost use Rattle.lvm_move_plan.specs.Planned.{free_on};
 
-use lvm_num::{Descriptor, Memory, Pp, PvRow};
+use lvm_num::{Descriptor, LvRow, Memory, Pp, PvRow};
 use std::alloc::Global;
 
 /// The partitions of a member, a spare too, that no volume has, by their numbers.
@@ -48,10 +50,13 @@ fn free_of(alloc: Global, d: &Descriptor, row: PvRow) -> Result<Vec<Pp>, Memory>
 fn is_used(d: &Descriptor, pp: Pp) -> bool
     ensures { result ≡ is_among (partitions_used d.now) pp }
 {
-    d.lvs
-        .as_slice()
-        .iter()
-        .any(|row| is_among(row.map.as_slice(), pp))
+    is_used_in(d.lvs.as_slice(), pp)
+}
+
+fn is_used_in(rows: &[LvRow], pp: Pp) -> bool
+    ensures { result ≡ list_any (λ (row : LvRow). is_among row.map pp) rows.now }
+{
+    rows.iter().any(|row| is_among(row.map.as_slice(), pp))
 }
 
 fn is_among(pps: &[Pp], pp: Pp) -> bool
