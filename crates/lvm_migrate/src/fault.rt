@@ -36,9 +36,9 @@ pub enum MoveFault {
 }
 
 impl From<PlanFault> for MoveFault {
-    fn from(why: PlanFault) -> MoveFault
-        ensures { result ≡ plan_fault_is why }
-    {
+    ghost from_gives = { λ why e. e ≡ plan_fault_is why };
+
+    fn from(why: PlanFault) -> MoveFault {
         match why {
             PlanFault::Strict { lp } => MoveFault::Strict { lp },
             PlanFault::NoRoom { free } => MoveFault::NoRoom { free },
@@ -48,9 +48,9 @@ impl From<PlanFault> for MoveFault {
 }
 
 impl From<CommitFault> for MoveFault {
-    fn from(why: CommitFault) -> MoveFault
-        ensures { result ≡ commit_fault_is why }
-    {
+    ghost from_gives = { λ why e. e ≡ commit_fault_is why };
+
+    fn from(why: CommitFault) -> MoveFault {
         match why {
             CommitFault::Dark => MoveFault::Dark,
             CommitFault::WentOff { have, total } => MoveFault::WentOff { have, total },
