@@ -58,20 +58,20 @@ module _ {X : Type 0} (p : X → Bool) where
   pub find_here : (xs : List X) (i : ℕ) (e : X) → i < length xs → find p (take i xs) ≡ None → p (get_or xs i e) ≡ true → find p xs ≡ Some (get_or xs i e)
   find_here [] i e lt none is = absurd (omega (arith, lt))
   find_here (x ∷ xs) zero e lt none is = ap (λ b. cond b (Some x) (find p xs)) is
-  find_here (x ∷ xs) (suc i) e lt none is = by (p x) refl
+  find_here (x ∷ xs) (suc i) e lt none is = by (λ rest. find_here xs i e (omega (arith, lt)) rest is) (p x) refl
     where
-      by : (b : Bool) → p x ≡ b → cond (p x) (Some x) (find p xs) ≡ Some (get_or xs i e)
-      by true t = absurd (let no : Some x ≡ None = sym (ap (λ b. cond b (Some x) (find p (take i xs))) t) ∙ none in cc no)
-      by false f = ap (λ b. cond b (Some x) (find p xs)) f ∙ find_here xs i e (omega (arith, lt)) (sym (ap (λ b. cond b (Some x) (find p (take i xs))) f) ∙ none) is
+      by : (find p (take i xs) ≡ None → find p xs ≡ Some (get_or xs i e)) → (b : Bool) → p x ≡ b → cond (p x) (Some x) (find p xs) ≡ Some (get_or xs i e)
+      by on true t = absurd (let no : Some x ≡ None = sym (ap (λ b. cond b (Some x) (find p (take i xs))) t) ∙ none in cc no)
+      by on false f = ap (λ b. cond b (Some x) (find p xs)) f ∙ on (sym (ap (λ b. cond b (Some x) (find p (take i xs))) f) ∙ none)
 
   find_step : (xs : List X) (i : ℕ) (e : X) → i < length xs → find p (take i xs) ≡ None → p (get_or xs i e) ≡ false → find p (take (suc i) xs) ≡ None
   find_step [] i e lt none isnt = absurd (omega (arith, lt))
   find_step (x ∷ xs) zero e lt none isnt = ap (λ b. cond b (Some x) None) isnt
-  find_step (x ∷ xs) (suc i) e lt none isnt = by (p x) refl
+  find_step (x ∷ xs) (suc i) e lt none isnt = by (λ rest. find_step xs i e (omega (arith, lt)) rest isnt) (p x) refl
     where
-      by : (b : Bool) → p x ≡ b → cond (p x) (Some x) (find p (take (suc i) xs)) ≡ None
-      by true t = absurd (let no : Some x ≡ None = sym (ap (λ b. cond b (Some x) (find p (take i xs))) t) ∙ none in cc no)
-      by false f = ap (λ b. cond b (Some x) (find p (take (suc i) xs))) f ∙ find_step xs i e (omega (arith, lt)) (sym (ap (λ b. cond b (Some x) (find p (take i xs))) f) ∙ none) isnt
+      by : (find p (take i xs) ≡ None → find p (take (suc i) xs) ≡ None) → (b : Bool) → p x ≡ b → cond (p x) (Some x) (find p (take (suc i) xs)) ≡ None
+      by on true t = absurd (let no : Some x ≡ None = sym (ap (λ b. cond b (Some x) (find p (take i xs))) t) ∙ none in cc no)
+      by on false f = ap (λ b. cond b (Some x) (find p (take (suc i) xs))) f ∙ on (sym (ap (λ b. cond b (Some x) (find p (take i xs))) f) ∙ none)
 
   -- nor is it
   pub find_more : (xs : List X) (i : ℕ) (e : X) → i < length xs → find p (take i xs) ≡ None → p (get_or xs i e) ≡ false → find p (take (i + 1) xs) ≡ None
