@@ -3,6 +3,7 @@ ghost use Rattle.std.specs.Prelude.{◌≡◌, ◌≤◌, None, length, All, IfO
 ghost use Rattle.std.specs.Option.{option_copied, option_map};
 ghost use Rattle.lvm_num.specs.Descriptor.{IsLaidOut, IsValid};
 ghost use Rattle.lvm_num.specs.declared.place.Pp.{Pp};
+ghost use Rattle.lvm_move_plan.specs.declared.plan.PlanFault.TheVariants as fault;
 ghost use Rattle.lvm_move_plan.specs.declared.standing.VolumeCopy.{VolumeCopy};
 ghost use Rattle.lvm_move_plan.specs.Planned.{IsPlanFault, moves_to, plan_refusal, planned_moves, stands_beside};
 
@@ -30,6 +31,8 @@ pub enum PlanFault {
 }
 
 impl From<Memory> for PlanFault {
+    ghost from_gives = { λ _ e. e ≡ fault.Memory };
+
     fn from(_refused: Memory) -> PlanFault {
         PlanFault::Memory
     }
