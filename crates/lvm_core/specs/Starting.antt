@@ -4,7 +4,7 @@ use Rattle.lvm_num.specs.declared.descriptor.Descriptor.{Descriptor}
 use Rattle.lvm_num.specs.declared.status.Status.{Status}
 use Rattle.lvm_num.specs.Descriptor.{IsValid}
 use Rattle.lvm_session_start.specs.declared.parts.Parts.{Parts}
-use Rattle.lvm_session_start.specs.declared.parts.Room.{Room as SessionRoom}
+use Rattle.lvm_session_start.specs.declared.parts.SessionRoom.{SessionRoom}
 use Rattle.lvm_session_start.specs.Parts.{IsOneGroup, IsReserved, IsSessionRoom}
 use Rattle.lvm_core.specs.declared.parts.Room.{Room}
 
@@ -17,12 +17,12 @@ pub record IsRoom (room : Room) : Type 0 where
   pub entries : 4 ≤ room.entries
 
 -- that of the session itself, without the one of its history
-abbrev pub room_of : Room → SessionRoom
-room_of room = record { table = room.table; pool = room.pool }
+abbrev pub session_room_of : Room → SessionRoom
+session_room_of room = record { table = room.table; pool = room.pool }
 
 -- The parts of a session of this group, which begins with this status: nothing is in use, and there is this room.
 abbrev pub IsReservedFor : Descriptor → Status → Room → Parts → Type 0
-IsReservedFor d s room p = IsReserved d s (room_of room) p
+IsReservedFor d s room p = IsReserved d s (session_room_of room) p
 
 -- the parts of some session
 pub record AreReserved (p : Parts) : Type 0 where

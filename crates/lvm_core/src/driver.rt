@@ -47,12 +47,12 @@ use std::marker::Model;
 /// A group that is varied on, over its shelf. Contracts see the shelf and what the session is about.
 /// No call of it but `prepare` takes memory.
 #[derive(Drop)]
-pub struct Driver<S: Shelf> {
+pub struct CommandDriver<S: Shelf> {
     shelf: S,
     session: Session,
 }
 
-impl<S: Shelf> Model for Driver<S> {
+impl<S: Shelf> Model for CommandDriver<S> {
     ghost use Rattle.lvm_session.specs.State.{Core, state};
     ghost use Rattle.lvm_session.specs.Fields.{core_of};
     ghost use Rattle.lvm_session.specs.Rooms.{HasRooms};
@@ -65,10 +65,16 @@ impl<S: Shelf> Model for Driver<S> {
     ghost invariant = { λ d. HasRooms d.session × IsSoundAtRest (state (S.device d.shelf) (core_of d.session)) };
 }
 
-impl<S: Shelf> Driver<S> {
+impl<S: Shelf> CommandDriver<S> {
     /// Varies the group on: enters On with the epoch of the stamp, which is that of the last record
     /// that was written; `homes` are the slots to which the next ones go.
-    pub fn start(parts: Parts, shelf: S, history: History, stamp: Stamp, homes: Homes) -> Driver<S>
+    pub fn start(
+        parts: Parts,
+        shelf: S,
+        history: History,
+        stamp: Stamp,
+        homes: Homes,
+    ) -> CommandDriver<S>
         requires spare { 1 ≤ spare_entries history }
         requires landed { HaveAllLanded history.facts }
         requires ready { IsReady (S.device shelf) }
@@ -78,17 +84,17 @@ impl<S: Shelf> Driver<S> {
         ensures faults { AreFaults (S.device shelf) result.1.origin.faults }
     {
         let session = parts.into_session(&shelf, history, stamp, homes);
-        Driver { shelf, session }
+        CommandDriver { shelf, session }
     }
 
     /// The session of another driver at which nothing is under way, over its shelf.
-    pub fn from_parts(shelf: S, session: Session) -> Driver<S>
+    pub fn from_parts(shelf: S, session: Session) -> CommandDriver<S>
         requires rooms { HasRooms session }
         requires sound { IsSoundAtRest (state (S.device shelf) (core_of session)) }
         ensures shelf { result.0 ≡ shelf }
         ensures core { result.1 ≡ core_of session }
     {
-        Driver { shelf, session }
+        CommandDriver { shelf, session }
     }
 
     /// Its shelf and its session, for another driver.
@@ -321,7 +327,7 @@ impl<S: Shelf> Driver<S> {
         // Where no request waited, each that the history tells of has landed.
         ensures landed { All (λ (o : Open). is_waiting o ≡ false) self.1.requests → HaveAllLanded result.history.facts }
     {
-        let Driver { shelf, session } = self;
+        let CommandDriver { shelf, session } = self;
         Closed {
             shelf: without_freed(shelf),
             history: session.history,

@@ -13,7 +13,7 @@ mod records;
 mod refused;
 mod zero;
 
-pub use driver::{Closed, Driver, without_freed};
+pub use driver::{Closed, CommandDriver, without_freed};
 pub use fault::CommitFault;
 pub use look::number_of;
 pub use parts::{Parts, Room};

@@ -8,7 +8,7 @@ ghost use Rattle.lvm_session.specs.Rooms.{HasRooms};
 ghost use Rattle.lvm_session.specs.Placed.{ArePlaced};
 ghost use Rattle.lvm_session_start.specs.Parts.{IsOneGroup};
 ghost use Rattle.lvm_session_start.specs.Beginning.{AreFaults, first_core};
-ghost use Rattle.lvm_core.specs.Starting.{IsRoom, IsReservedFor, AreReserved, room_of};
+ghost use Rattle.lvm_core.specs.Starting.{IsRoom, IsReservedFor, AreReserved, session_room_of};
 
 use crate::look::are_placed;
 use lvm_disk::Shelf;
@@ -35,10 +35,10 @@ pub struct Room {
 }
 
 // The room of the session.
-fn of_session(room: Room) -> lvm_session_start::Room
-    ensures { result ≡ room_of room }
+fn of_session(room: Room) -> lvm_session_start::SessionRoom
+    ensures { result ≡ session_room_of room }
 {
-    lvm_session_start::Room {
+    lvm_session_start::SessionRoom {
         table: room.table,
         pool: room.pool,
     }

@@ -36,7 +36,7 @@ impl Prepared {
     }
 
     /// The descriptor and the bytes.
-    pub(crate) fn into_parts(self) -> (Descriptor, Rows<u8>)
+    pub fn into_parts(self) -> (Descriptor, Rows<u8>)
         ensures descriptor { result.0 ≡ self }
         ensures bytes { result.1 ≡ descriptor_bytes self }
         ensures valid { IsValid self }

@@ -25,7 +25,7 @@ use Rattle.lvm_session.specs.Worked.{faultless, fresh, mirrored, status_of}
 use Rattle.lvm_session.proofs.WorkedLemmas.Parts.{none_missing, placed, valid}
 use Rattle.lvm_keeps_events.proofs.SubmitKeepsLemmas.{few_updates}
 use Rattle.lvm_session_start.specs.declared.parts.Parts.{Parts}
-use Rattle.lvm_session_start.specs.declared.parts.Room.{Room}
+use Rattle.lvm_session_start.specs.declared.parts.SessionRoom.{SessionRoom}
 use Rattle.lvm_session_start.specs.Beginning.{MayBeginSession, first_core}
 use Rattle.lvm_session_start.specs.Parts.{IsReserved, IsSessionRoom}
 use Rattle.lvm_driver.specs.Beginnings.{EachModeBegins, IsClosedLog, IsShelfOf, IsWholeGroup, WholeGroupsBegin, no_log, third_stamp}
@@ -58,7 +58,7 @@ enough d s it = more_is_enough.write d (total_votes d) (votes_in d (members_ther
 
 -- ---- its parts
 
-module _ (device : Device) (history : Log) (stamp : Stamp) (homes : Homes) (room : Room) (d : Descriptor) (s : Status) (p : Parts)
+module _ (device : Device) (history : Log) (stamp : Stamp) (homes : Homes) (room : SessionRoom) (d : Descriptor) (s : Status) (p : Parts)
     (fits : IsSessionRoom room) (its : IsReserved d s room p) (whole : IsWholeGroup d s) (shelf : IsShelfOf device d s) (log : IsClosedLog history) (few : stamp.seq < 2 ^ 31) where
   abbrev core : Core
   core = first_core p history stamp homes []
@@ -66,7 +66,7 @@ module _ (device : Device) (history : Log) (stamp : Stamp) (homes : Homes) (room
   its_own : IsReserved p.descriptor p.table p.room p
   its_own =
       subst (λ (x : Descriptor). IsReserved x p.table p.room p) (sym its.descriptor)
-      (subst (λ (x : Status). IsReserved d x p.room p) (sym its.table) (subst (λ (x : Room). IsReserved d s x p) (sym its.room_is) its))
+      (subst (λ (x : Status). IsReserved d x p.room p) (sym its.table) (subst (λ (x : SessionRoom). IsReserved d s x p) (sym its.room_is) its))
 
   group : IsWholeGroup p.descriptor p.table
   group = subst (λ (x : Descriptor). IsWholeGroup x p.table) (sym its.descriptor) (subst (IsWholeGroup d) (sym its.table) whole)

@@ -15,7 +15,7 @@ use Rattle.lvm_session.specs.Placed.{ArePlaced}
 use Rattle.lvm_session.specs.Sound.{HasPower}
 use Rattle.lvm_session.specs.Worked.{faultless, fresh, mirrored, status_of}
 use Rattle.lvm_session_start.specs.declared.parts.Parts.{Parts}
-use Rattle.lvm_session_start.specs.declared.parts.Room.{Room}
+use Rattle.lvm_session_start.specs.declared.parts.SessionRoom.{SessionRoom}
 use Rattle.lvm_session_start.specs.Beginning.{MayBeginSession}
 use Rattle.lvm_session_start.specs.Parts.{IsOneGroup, IsReserved, IsSessionRoom}
 
@@ -40,7 +40,7 @@ pub record IsClosedLog (history : Log) : Type 0 where
 
 -- A session of a group of which no member is missing may begin, whatever the modes of its volumes.
 abbrev pub WholeGroupsBegin : Type 0
-WholeGroupsBegin = (device : Device) (history : Log) (stamp : Stamp) (homes : Homes) (room : Room) (d : Descriptor) (s : Status) (p : Parts)
+WholeGroupsBegin = (device : Device) (history : Log) (stamp : Stamp) (homes : Homes) (room : SessionRoom) (d : Descriptor) (s : Status) (p : Parts)
     → IsSessionRoom room → IsReserved d s room p → IsWholeGroup d s → IsShelfOf device d s → IsClosedLog history → stamp.seq < 2 ^ 31 → MayBeginSession device history stamp homes p
 
 -- a history without an entry, and the last stamp of those who made the group
@@ -52,4 +52,4 @@ third_stamp = record { epoch = 50; seq = 3 }
 
 -- So may one of three disks with a mirrored volume, in each mode that it may have.
 abbrev pub EachModeBegins : Type 0
-EachModeBegins = (m : Mode) (homes : Homes) (room : Room) (p : Parts) → IsSessionRoom room → IsReserved (mirrored m) (status_of fresh) room p → MayBeginSession faultless no_log third_stamp homes p
+EachModeBegins = (m : Mode) (homes : Homes) (room : SessionRoom) (p : Parts) → IsSessionRoom room → IsReserved (mirrored m) (status_of fresh) room p → MayBeginSession faultless no_log third_stamp homes p

@@ -1,7 +1,7 @@
 -- Requests at their places of the table.
 use Rattle.std.proofs.Common.{◌≡◌, ◌<◌, ℕ, zero, suc, List, [], ◌∷◌, Some, length, slice_get, slice_index_or, sym, ap, subst, arith}
 use Rattle.std.specs.List.{AllByRecursion}
-use Rattle.lvm_due.specs.passed.FactsNames.{Open}
+use Rattle.lvm_due.specs.passed.Session.{Open}
 
 -- what holds of each holds of the one at a place
 pub at_place : (P : Open → Type 0) (os : List Open) (k : ℕ) (o : Open) → AllByRecursion P os → slice_get os k ≡ Some o → P o

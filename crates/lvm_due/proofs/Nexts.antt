@@ -6,7 +6,7 @@ use Rattle.lvm_hold.specs.Order.{IsAscending}
 use Rattle.lvm_path.specs.declared.facts.Next.TheVariants as next
 use Rattle.lvm_path.specs.declared.request.Phase.{Phase}
 use Rattle.lvm_path.specs.Next.{next_in}
-use Rattle.lvm_due.specs.passed.FactsNames.{OpenCopy, Open, Core, facts_of, held_of, is_waiting, next_for, place_of, IsOpenOne, IsCopy, IsGoing}
+use Rattle.lvm_due.specs.passed.Session.{OpenCopy, Open, Core, facts_of, held_of, is_waiting, next_for, place_of, IsOpenOne, IsCopy, IsGoing}
 use Rattle.lvm_due.specs.Queued.{IsQueued}
 use Rattle.lvm_due.proofs.AtPlaces.{at_place}
 use Rattle.lvm_due.proofs.OrderLemmas.{queue_ascends, queue_has}

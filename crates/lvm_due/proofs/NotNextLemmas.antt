@@ -18,7 +18,7 @@ use Rattle.lvm_path.specs.declared.target.Target.{Target}
 use Rattle.lvm_path.specs.Asks.{is_write}
 use Rattle.lvm_path.specs.Next.{next_chosen, next_in, next_read, next_write, start_or_wait}
 use Rattle.lvm_path.specs.Targets.{is_begun, is_done, states_of}
-use Rattle.lvm_due.specs.passed.FactsNames.{is_admit, is_past_held, is_pin, outcome_next, target_next, wants_entry}
+use Rattle.lvm_due.specs.passed.Session.{is_admit, is_past_held, is_pin, outcome_next, target_next, wants_entry}
 use Rattle.lvm_due.specs.Might.{any_waits, are_at_rest, might_admit_in, might_land_in, might_start_in, none_goes}
 
 -- ---- what something is of each thing that it may do next is so of what it does

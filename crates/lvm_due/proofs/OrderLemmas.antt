@@ -6,7 +6,7 @@ use Rattle.std.proofs.lemmas.Bool.{ltb-true}
 use Rattle.std.proofs.lemmas.List.Elements.{All-nil, All-cons, All-head, All-tail}
 use Rattle.lvm_hold.specs.declared.queue.Row.{Row}
 use Rattle.lvm_hold.specs.Order.{IsAscending}
-use Rattle.lvm_due.specs.passed.FactsNames.{OpenCopy, Open, Core, held_of, is_waiting, place_of, has_row, step_row, IsAscending as AreAscending, rows_of, waiting_rows, with_row, IsCopy}
+use Rattle.lvm_due.specs.passed.Session.{OpenCopy, Open, Core, held_of, is_waiting, place_of, has_row, step_row, IsAscending as AreAscending, rows_of, waiting_rows, with_row, IsCopy}
 
 abbrev row_of : Open → Row
 row_of o = record { id = place_of o.request.id; ask = held_of o.request.ask }

@@ -3,7 +3,7 @@ use Rattle.std.proofs.Common.{◌≡◌, ◌==◌, ◌<◌, ◌≤◌, ◌+◌, 
 use Rattle.std.specs.Prelude.{is_some}
 use Rattle.std.proofs.lemmas.Bool.{eqb-true}
 use Rattle.std.proofs.lemmas.Bool.Decides.{nat_tests}
-use Rattle.lvm_due.specs.passed.FactsNames.{Event, Open, first_from, or_next}
+use Rattle.lvm_due.specs.passed.Session.{Event, Open, first_from, or_next}
 use Rattle.lvm_due.specs.declared.span.Span.{Span}
 use Rattle.lvm_due.specs.Spans.{is_in, Spans}
 

@@ -9,7 +9,7 @@ use Rattle.lvm_path.specs.declared.request.Phase.{Phase}
 use Rattle.lvm_path.specs.declared.request.Phase.TheVariants as phase
 use Rattle.lvm_path.specs.declared.request.Request.{Request}
 use Rattle.lvm_path.specs.declared.target.Target.{Target}
-use Rattle.lvm_due.specs.passed.FactsNames.{Core, copies_for, is_usable, is_among, IsTarget}
+use Rattle.lvm_due.specs.passed.Session.{Core, copies_for, is_usable, is_among, IsTarget}
 use Rattle.lvm_session.specs.Requests.{IsAimed}
 use Rattle.lvm_due.specs.Might.{any_is_usable, shows_usable}
 

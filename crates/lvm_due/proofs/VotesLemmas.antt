@@ -9,7 +9,7 @@ use Rattle.lvm_num.specs.Descriptor.{is_member}
 use Rattle.lvm_num.specs.Status.{calls_missing}
 use Rattle.lvm_num.specs.Votes.{all_disks, total_votes, votes_in}
 use Rattle.lvm_num.proofs.VotesLemmas.{more_have_more}
-use Rattle.lvm_due.specs.passed.FactsNames.{members_there}
+use Rattle.lvm_due.specs.passed.Session.{members_there}
 
 not_both : (a b c : Bool) → b ≡ false → c ≡ false → (a && b || c) ≡ false
 not_both false b false is none = refl

@@ -8,7 +8,7 @@ use Rattle.lvm_path.specs.declared.request.Request.{Request}
 use Rattle.lvm_path.specs.declared.target.Target.{Target}
 use Rattle.lvm_path.specs.Asks.{is_write}
 use Rattle.lvm_path.specs.Targets.{is_begun, is_done}
-use Rattle.lvm_due.specs.passed.FactsNames.{Core, copies_for, has_names, is_changed, is_usable, mode_of, wants_entry}
+use Rattle.lvm_due.specs.passed.Session.{Core, copies_for, has_names, is_changed, is_usable, mode_of, wants_entry}
 
 -- a write that hasn't started its data
 abbrev pub is_unbegun : Request → Bool

@@ -1,6 +1,6 @@
 -- The places of the table at which an event of a kind may be due.
 use Rattle.std.specs.Prelude.{◌≡◌, ◌≤◌, ◌<◌, ◌+◌, ℕ, Bool, true, false, ◌&&◌, nat_le, nat_lt, List, Option, Some, None, length, slice_get}
-use Rattle.lvm_due.specs.passed.FactsNames.{Event, Open}
+use Rattle.lvm_due.specs.passed.Session.{Event, Open}
 use Rattle.lvm_due.specs.declared.span.Span.{Span}
 
 -- it is one of these places

@@ -1,4 +1,2 @@
 pub mod Session
-pub mod FactsNames
-pub mod Others
 pub mod SessionEventEvent

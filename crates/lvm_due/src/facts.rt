@@ -3,7 +3,7 @@ ghost use Rattle.std.specs.Prelude.{◌≡◌, ◌≤◌, ◌<◌, ◌^◌, ◌&
 ghost use Rattle.std.specs.List.{list_any, list_all};
 ghost use Rattle.lvm_num.specs.Descriptor.{IsValid};
 ghost use Rattle.lvm_num.specs.Status.{calls_dirty};
-ghost use Rattle.lvm_due.specs.passed.FactsNames.{is_named, core_of, IsWithinVolume, copies_for, facts_of, has_dirty_mark, has_names, is_changed, is_held_back, is_kept, is_marked, is_pending, is_usable, mode_of, next_for};
+ghost use Rattle.lvm_due.specs.passed.Session.{is_named, core_of, IsWithinVolume, copies_for, facts_of, has_dirty_mark, has_names, is_changed, is_held_back, is_kept, is_marked, is_pending, is_usable, mode_of, next_for};
 ghost use Rattle.lvm_path.specs.declared.target.Target.{Target};
 ghost use Rattle.lvm_path.specs.declared.request.Phase.TheVariants as phase;
 ghost use Rattle.lvm_path.specs.Asks.{at_of, is_write};

@@ -1,6 +1,6 @@
 //! The first request that an event of a kind may be made of.
 ghost use Rattle.std.specs.Prelude.{◌≡◌, ◌<◌, length, slice_get, Some};
-ghost use Rattle.lvm_due.specs.passed.FactsNames.{Open, core_of, admission, admission_at, data_at, first_from, landing, landing_at, IsGoing};
+ghost use Rattle.lvm_due.specs.passed.Session.{Open, core_of, admission, admission_at, data_at, first_from, landing, landing_at, IsGoing};
 ghost use Rattle.lvm_due.specs.Due.{NoneFails};
 ghost use Rattle.lvm_due.specs.Spans.{Spans};
 

@@ -1,6 +1,6 @@
 //! Who waits for whom.
 ghost use Rattle.std.specs.Prelude.{◌≡◌, ◌<◌, ◌^◌};
-ghost use Rattle.lvm_due.specs.passed.FactsNames.{core_of, held_of, is_held_back};
+ghost use Rattle.lvm_due.specs.passed.Session.{core_of, held_of, is_held_back};
 ghost use Rattle.lvm_due.specs.Queued.{IsQueued};
 
 use crate::below::{Held, Session};

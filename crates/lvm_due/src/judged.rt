@@ -2,7 +2,7 @@
 ghost use Rattle.std.specs.Prelude.{◌≡◌, ◌||◌, not};
 ghost use Rattle.std.specs.List.{list_all};
 ghost use Rattle.lvm_path.specs.declared.target.Target.{Target};
-ghost use Rattle.lvm_due.specs.passed.FactsNames.{core_of, all_but_sure, counts_failed, is_kept, is_marked, is_settled, is_sure_at};
+ghost use Rattle.lvm_due.specs.passed.Session.{core_of, all_but_sure, counts_failed, is_kept, is_marked, is_settled, is_sure_at};
 
 use crate::below::Session;
 use crate::standing::{is_settled, is_sure, is_wanted_stale};

@@ -1,7 +1,7 @@
 //! Whether the move of a copy is done.
 ghost use Rattle.std.specs.Prelude.{◌≡◌, unwrap_or};
 ghost use Rattle.lvm_num.specs.Status.{calls_stale};
-ghost use Rattle.lvm_due.specs.passed.FactsNames.{core_of, is_held_by_move, is_held_stale, is_move_done, is_past_held, is_under_way, stays_fresh};
+ghost use Rattle.lvm_due.specs.passed.Session.{core_of, is_held_by_move, is_held_stale, is_move_done, is_past_held, is_under_way, stays_fresh};
 
 use crate::below::{Open, Session};
 use crate::pending::is_waiting;

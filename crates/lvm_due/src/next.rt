@@ -1,6 +1,6 @@
 //! What the request at a place of the table does next.
 ghost use Rattle.std.specs.Prelude.{◌≡◌, ◌<◌, length, slice_get, Some};
-ghost use Rattle.lvm_due.specs.passed.FactsNames.{Open, core_of, next_for, IsGoing};
+ghost use Rattle.lvm_due.specs.passed.Session.{Open, core_of, next_for, IsGoing};
 ghost use Rattle.lvm_due.specs.Due.{NoneFails};
 
 use crate::below::Session;

@@ -1,7 +1,7 @@
 //! The first note that a request lacks.
 ghost use Rattle.std.specs.Prelude.{◌≡◌, ◌&&◌, ◌<◌, ◌^◌, find, is_none, length, not, slice_get, Some};
 ghost use Rattle.std.specs.Option.{option_map};
-ghost use Rattle.lvm_due.specs.passed.FactsNames.{flight_on, is_named, Open, core_of, is_missing, first_from, note_at, note_due, IsGoing};
+ghost use Rattle.lvm_due.specs.passed.Session.{flight_on, is_named, Open, core_of, is_missing, first_from, note_at, note_due, IsGoing};
 ghost use Rattle.lvm_path.specs.Asks.{at_of};
 ghost use Rattle.lvm_path.specs.declared.target.Target.{Target};
 ghost use Rattle.lvm_due.specs.Spans.{Spans};

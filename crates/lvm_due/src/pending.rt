@@ -6,7 +6,7 @@ ghost use Rattle.lvm_num.specs.Descriptor.{IsValid};
 ghost use Rattle.lvm_num.specs.Geometry.{partition_blocks};
 ghost use Rattle.lvm_path.specs.declared.target.Target.{Target};
 ghost use Rattle.lvm_path.specs.Asks.{at_of};
-ghost use Rattle.lvm_due.specs.passed.FactsNames.{Open, core_of, IsWithinVolume, counts_failed, is_beside, is_failing, is_pending, is_settled, is_waiting, is_wanted_stale, lp_of};
+ghost use Rattle.lvm_due.specs.passed.Session.{Open, core_of, IsWithinVolume, counts_failed, is_beside, is_failing, is_pending, is_settled, is_waiting, is_wanted_stale, lp_of};
 ghost use Rattle.lvm_due.specs.Due.{NoneFails};
 
 use crate::below::{Open, Session};

@@ -1,7 +1,7 @@
 //! What a request might do next, as far as that shows without its facts.
 ghost use Rattle.std.specs.Prelude.{◌≡◌};
 ghost use Rattle.lvm_num.specs.Descriptor.{IsValid};
-ghost use Rattle.lvm_due.specs.passed.FactsNames.{core_of, IsWithinVolume};
+ghost use Rattle.lvm_due.specs.passed.Session.{core_of, IsWithinVolume};
 ghost use Rattle.lvm_due.specs.Might.{any_is_usable, any_waits, are_at_rest, might_admit, might_land, might_pin, might_start, might_transfer, none_goes};
 
 use crate::below::Session;

@@ -2,7 +2,7 @@
 ghost use Rattle.std.specs.Prelude.{◌≡◌};
 ghost use Rattle.std.specs.List.{list_any};
 ghost use Rattle.lvm_num.specs.declared.status.StatusRow.{StatusRow};
-ghost use Rattle.lvm_due.specs.passed.FactsNames.{core_of, votes_there, copy_write, has_buffer, is_lost, IsFitting};
+ghost use Rattle.lvm_due.specs.passed.Session.{core_of, votes_there, copy_write, has_buffer, is_lost, IsFitting};
 
 use crate::below::{Event, Session, Step};
 use crate::standing::is_running;

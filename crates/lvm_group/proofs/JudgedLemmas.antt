@@ -10,7 +10,7 @@ use Rattle.lvm_num.specs.Record.{Stamped}
 use Rattle.lvm_quorum.specs.declared.row.SurveyRow.{SurveyRow}
 use Rattle.lvm_quorum.specs.declared.row.Survey.{Survey}
 use Rattle.lvm_quorum.specs.Surveyed.{surveyed}
-use Rattle.lvm_quorum.specs.passed.Survey.{under}
+use Rattle.lvm_quorum.specs.Reading.{under}
 use Rattle.lvm_quorum.proofs.SurveyedLemmas.SurveyRows.{descriptor_shown, status_shown}
 use Rattle.lvm_group.specs.Shown.{HasGroup, ShowsEarlier, ShowsMoment}
 use Rattle.lvm_group.specs.Judged.{DiskIsTaken, HasMoment, IsLastOf}

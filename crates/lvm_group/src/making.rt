@@ -5,7 +5,7 @@ ghost use Rattle.lvm_group.specs.passed.Names.{AreFaults, HaveAllLanded, IsRoom,
 ghost use Rattle.lvm_group.specs.Made.{MkvgGives};
 ghost use Rattle.lvm_group.specs.NewGroup.{IsWellFormed};
 
-use crate::below::{Driver, Refused, Room};
+use crate::below::{CommandDriver, Refused, Room};
 use crate::make::{Asked, make};
 use lvm_disk::Shelf;
 use lvm_history::History;
@@ -34,7 +34,7 @@ pub fn mkvg<S: Shelf>(
     moment: u64,
     room: Room,
     patience: &mut Patience,
-) -> Result<Driver<S>, Refused<S>>
+) -> Result<CommandDriver<S>, Refused<S>>
     requires ready { IsReady (S.device shelf) }
     requires landed { HaveAllLanded history.facts }
     requires asked { IsWellFormed (record { name = name; mib = mib; disks = disks.now; force = force; moment = moment }) }
@@ -67,7 +67,7 @@ pub fn mkvg<S: Shelf>(
                 epoch: moment,
                 seq: 2,
             };
-            Ok(Driver::start(standing.parts, shelf, history, stamp, standing.homes))
+            Ok(CommandDriver::start(standing.parts, shelf, history, stamp, standing.homes))
         }
         Err(cause) => Err(Refused {
             shelf,

@@ -10,5 +10,5 @@ pub mod ranges;
 pub mod split;
 pub mod volumes;
 
-pub use lvm_core::{Driver, number_of};
+pub use lvm_core::{CommandDriver, number_of};
 pub use lvm_quiesce::below::Closed;

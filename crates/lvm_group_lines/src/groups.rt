@@ -18,7 +18,7 @@ use crate::below::quiesce::{mkvg, varyon};
 use crate::holder::Holder;
 use crate::reply::{Refusal, Reply};
 use crate::stage::{Answered, Stage};
-use lvm_core::{Cause, Closed, Driver, Refused, Room};
+use lvm_core::{Cause, Closed, CommandDriver, Refused, Room};
 use lvm_disk::Shelf;
 use lvm_io::Clock;
 use lvm_num::Name;
@@ -58,7 +58,7 @@ fn relight_after_refusal<S: Shelf>(shelf: &mut S, cause: Cause)
 }
 
 // Who holds a group that has come on, which takes requests where it has a volume.
-fn hold<S: Shelf>(driver: Driver<S>) -> Holder<S>
+fn hold<S: Shelf>(driver: CommandDriver<S>) -> Holder<S>
     requires may { IsSoundAtRest (state_of S.device driver) → IsSound (state_of S.device driver) }
     ensures shelf { shelf_of result ≡ driver.0 }
     ensures history { history_of result ≡ driver.1.history }
@@ -78,7 +78,7 @@ fn hold<S: Shelf>(driver: Driver<S>) -> Holder<S>
 }
 
 // Who holds the shelf and the history after a command by which a group comes on or doesn't, and what it is answered.
-fn left<S: Shelf>(outcome: Result<Driver<S>, Refused<S>>) -> (Holder<S>, Reply)
+fn left<S: Shelf>(outcome: Result<CommandDriver<S>, Refused<S>>) -> (Holder<S>, Reply)
     requires may { IfOk outcome (λ driver. IsSoundAtRest (state_of S.device driver) → IsSound (state_of S.device driver)) }
     requires still { IfErr outcome (λ refused. refused.cause ≡ Cause.Dark → (S.device refused.shelf).flights ≡ []) }
     ensures on { IfOk outcome (IsHeldBy S.device result.0 result.1) }

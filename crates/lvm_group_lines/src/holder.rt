@@ -21,7 +21,7 @@ pub enum Holder<S: Shelf> {
     },
     /// The session of a group without volumes. It takes commands on the group at once, since nothing is under way.
     Empty {
-        driver: lvm_quiesce::below::Driver<S>,
+        driver: lvm_quiesce::below::CommandDriver<S>,
     },
     /// The session of a group with volumes. It takes requests.
     Serving {

@@ -24,12 +24,12 @@ use Rattle.lvm_session.specs.Causes.{faults_at_first}
 use Rattle.lvm_session.specs.Placed.{ArePlaced}
 use Rattle.lvm_session.specs.Sound.{IsFitting, is_dark}
 use Rattle.lvm_session_start.specs.declared.parts.Parts.{Parts}
-use Rattle.lvm_session_start.specs.declared.parts.Room.{Room as SessionRoom}
+use Rattle.lvm_session_start.specs.declared.parts.SessionRoom.{SessionRoom}
 use Rattle.lvm_session_start.specs.Beginning.{first_core}
 use Rattle.lvm_session_start.specs.Parts.{IsReserved}
 use Rattle.lvm_keeps.specs.Begins.{SessionBegins, HasFirstStatus, IsUnused}
 use Rattle.lvm_keeps.proofs.BeginsLemmas.{beginning_is_sound}
-use Rattle.lvm_handover.specs.passed.Names.{room_of}
+use Rattle.lvm_handover.specs.passed.Names.{session_room_of}
 use Rattle.lvm_group.specs.NewGroup.{given_up, new_group, new_status}
 use Rattle.lvm_handover.specs.passed.Going.{IsStamped}
 use Rattle.lvm_handover.specs.Beginning.{HasJustBegun, IsHistory, MadeBegins, Serves, VariedOnBegins}
@@ -150,7 +150,7 @@ varied_on_begins was name moment room old s history on just =
     let b : BeginsWith was moment s = record {
       parts = on.first.parts;
       homes = s.core.homes;
-      reserved = its_own on.written.group (status_after on.written.next on.written.clean) (room_of room) on.first.parts on.first.reserved;
+      reserved = its_own on.written.group (status_after on.written.next on.written.clean) (session_room_of room) on.first.parts on.first.reserved;
       seq = last_seq on.written.clean;
       low = last_seq_low on.written.clean;
       is = on.first.is;
@@ -171,7 +171,7 @@ made_begins was w room old s history made just =
     let b : BeginsWith (given_up was w.disks) w.moment s = record {
       parts = made.reserved;
       homes = made.next;
-      reserved = its_own (new_group old.sizes w) (new_status w) (room_of room) made.reserved made.parts;
+      reserved = its_own (new_group old.sizes w) (new_status w) (session_room_of room) made.reserved made.parts;
       seq = 2;
       low = omega arith;
       is = made.core_is;

@@ -4,5 +4,5 @@ pub mod driver;
 pub mod ranges;
 pub mod volumes;
 
-pub use lvm_core::Driver;
+pub use lvm_core::CommandDriver;
 pub use lvm_ranges::below::{Post, end_posts};

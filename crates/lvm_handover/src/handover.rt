@@ -8,14 +8,14 @@ ghost use Rattle.lvm_handover.specs.passed.Names.{IsSettled, IsSoundAtRest};
 ghost use Rattle.lvm_handover.specs.Settling.{MayHandOver};
 ghost use Rattle.lvm_handover.specs.Serving.{OriginIsMarked, MarksAdded, MarksMissing, MayServe};
 
-use crate::below::{Driver as CoreDriver, driver};
+use crate::below::{CommandDriver, driver};
 use lvm_disk::Shelf;
 use lvm_num::{Descriptor, Pp};
 use lvm_status::StaleTable;
 
 /// A session whose turns have nothing left to make, and of which neither a request nor a copy is open, takes commands on
 /// its group.
-pub fn settle<S: Shelf>(driver: driver::Driver<S>) -> CoreDriver<S>
+pub fn settle<S: Shelf>(driver: driver::Driver<S>) -> CommandDriver<S>
     requires may { MayHandOver (state (S.device driver.0) driver.1) }
     ensures shelf { result.0 ≡ driver.0 }
     ensures core { result.1 ≡ driver.1 }
@@ -25,12 +25,12 @@ pub fn settle<S: Shelf>(driver: driver::Driver<S>) -> CoreDriver<S>
     ensures sound { IsSound (state (S.device driver.0) driver.1) }
 {
     let (shelf, session) = driver.into_parts();
-    CoreDriver::from_parts(shelf, session)
+    CommandDriver::from_parts(shelf, session)
 }
 
 /// The session takes requests again. The partitions of copies that a command added count as stale since the session
 /// began, and members that are missing by now as missing since.
-pub fn serve<S: Shelf>(driver: CoreDriver<S>, added: &[Pp]) -> driver::Driver<S>
+pub fn serve<S: Shelf>(driver: CommandDriver<S>, added: &[Pp]) -> driver::Driver<S>
     requires rows { HasItsRows driver.1.descriptor driver.1.origin.table }
     requires markable { All (IsMarkable driver.1.origin.table) added.now }
     requires may { MayServe added.now (state (S.device driver.0) driver.1) }

@@ -7,7 +7,7 @@ use Rattle.std.proofs.lemmas.List.{append-nil, length-replicate, map-append, len
 use Rattle.std.proofs.lemmas.List.Sums.{sum_by_more_le, sum_by_push, sum_by-cons}
 use Rattle.std.proofs.lemmas.Bool.Decides.{nat_tests}
 use Rattle.std.proofs.lemmas.Bool.{eqb-true}
-use Rattle.lvm_history.specs.passed.CheckerNames.{zero_sector, Vol, Outcome, Entry, Request, Fact, Making, Made, Split, Removing, Removed, Begun, Landed, Taken, Cut, On, IsInList, begun, begun_by, Log, open_count, landed_count, plain_fact, cut_log, spare_entries, spare_bytes, awaited, blocks_begun, entries_of, entries_from, next_id, blocks_given, next_request, has_id, asked, no_request, request_of, lands_id, takes_id, is_open, is_answered, is_got, got_by, held, blocks_of, blocks_begun_with, got_without_bytes, need, is_uncut_after, is_uncut_from, is_uncut, Follows, Ordered, HasItsData, IsGotOf}
+use Rattle.lvm_history.specs.passed.Vol.{zero_sector, Vol, Outcome, Entry, Request, Fact, Making, Made, Split, Removing, Removed, Begun, Landed, Taken, Cut, On, IsInList, begun, begun_by, Log, open_count, landed_count, plain_fact, cut_log, spare_entries, spare_bytes, awaited, blocks_begun, entries_of, entries_from, next_id, blocks_given, next_request, has_id, asked, no_request, request_of, lands_id, takes_id, is_open, is_answered, is_got, got_by, held, blocks_of, blocks_begun_with, got_without_bytes, need, is_uncut_after, is_uncut_from, is_uncut, Follows, Ordered, HasItsData, IsGotOf}
 use Rattle.lvm_history.specs.passed.VolEntryVol.{Disk}
 use Rattle.lvm_history.specs.passed.VolEntryOutcome as outcome
 use Rattle.lvm_history.specs.passed.VolEntryEntry as entry
@@ -17,7 +17,7 @@ use Rattle.lvm_allowed.specs.declared.row.Row.TheVariants as row
 use Rattle.lvm_allowed.specs.Fitting.{is_bounded}
 use Rattle.lvm_allowed.specs.Rows.{facts_of, no_ask, ask_of, is_landing, is_taking}
 use Rattle.lvm_history.specs.Keeping.{ask_at, ask_found, is_open_by, awaited_by, is_answered_by, entry_kept, IsOneOfAsks, asks_from, row_of, IsKept, IsRoomy, if_uncut, blocks_first, Holdings, log_of, IsSound}
-use Rattle.lvm_history.proofs.passed.CheckerNames.{IdsFrom, stands_last, stands-at, stands_begun, numbered, begun-push, any-push, ordered-push, found_of, and_left, open_of, follows_taken, count_begun, four_hold}
+use Rattle.lvm_history.proofs.passed.Vol.{IdsFrom, stands_last, stands-at, stands_begun, numbered, begun-push, any-push, ordered-push, found_of, and_left, open_of, follows_taken, count_begun, four_hold}
 use Rattle.lvm_history.proofs.LogLemmas.Keeping.{counts, ask-back, length-asks, length-flat, length-held, asks-push, facts-back, blocks_aside, blocks-begun, blocks-landed, blocks-read, held_same, unlanded_id, place_of}
 use Rattle.lvm_history.proofs.LogLemmas.Counting.{stands_get, find_at, find_below, counted, three_needed, no_taking_yet, landing_same, taking_same, needed-push, length-push}
 

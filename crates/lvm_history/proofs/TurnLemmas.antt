@@ -3,7 +3,7 @@ use Rattle.std.proofs.Common.{◌≡◌, ◌==◌, ◌+◌, ◌<◌, ◌≤◌, 
 use Rattle.std.specs.List.{list_any}
 use Rattle.std.proofs.lemmas.Bool.{eqb-true, cases_lt, cases_eq}
 use Rattle.std.proofs.lemmas.List.Folds.{list_any-append}
-use Rattle.lvm_history.specs.passed.CheckerNames.{Fact, Begun, Landed, Cut, lands_id, Follows, Ordered}
+use Rattle.lvm_history.specs.passed.Vol.{Fact, Begun, Landed, Cut, lands_id, Follows, Ordered}
 use Rattle.lvm_allowed.specs.declared.row.Row.{Row}
 use Rattle.lvm_allowed.specs.declared.row.Row.TheVariants as row
 use Rattle.lvm_allowed.specs.Rows.{is_landing}

@@ -1,1 +1,1 @@
-pub mod CheckerNames
+pub mod Vol

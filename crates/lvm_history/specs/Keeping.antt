@@ -1,7 +1,7 @@
 -- What a history keeps of its facts, and what holds of it.
 use Rattle.std.specs.Prelude.{◌≡◌, ◌==◌, ℕ, ◌+◌, ◌-◌, ◌*◌, ◌/◌, ◌^◌, ◌<◌, ◌≤◌, Bool, true, false, if◌then◌else◌, List, [], ◌∷◌, length, map, take, drop, slice_index_or, slice_get, not, ◌&&◌, Option, Some, None, replicate}
 use Rattle.std.specs.Simd.{first_chunks}
-use Rattle.lvm_history.specs.passed.CheckerNames.{zero_sector, Entry, Request, Fact, Making, Made, Split, Removing, Removed, Begun, Landed, Taken, Cut, On, begun, Ordered, Log, needed, is_uncut, blocks_of}
+use Rattle.lvm_history.specs.passed.Vol.{zero_sector, Entry, Request, Fact, Making, Made, Split, Removing, Removed, Begun, Landed, Taken, Cut, On, begun, Ordered, Log, needed, is_uncut, blocks_of}
 use Rattle.lvm_history.specs.passed.VolEntryVol.{Disk}
 use Rattle.lvm_history.specs.passed.VolEntryEntry as entry
 use Rattle.lvm_allowed.specs.declared.row.Ask.{Ask}

@@ -1,7 +1,7 @@
 -- A history's fields as what it keeps.
 use Rattle.std.specs.Prelude.{◌≡◌, vec_capacity}
 use Rattle.lvm_history.specs.declared.history.History.TheInside.{Inside}
-use Rattle.lvm_history.specs.passed.CheckerNames.{Log}
+use Rattle.lvm_history.specs.passed.Vol.{Log}
 use Rattle.lvm_history.specs.Keeping.{Holdings, log_of, IsSound}
 use Rattle.lvm_chains.specs.Places.{IsIndexOf}
 

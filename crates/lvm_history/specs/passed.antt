@@ -1,4 +1,4 @@
-pub mod CheckerNames
+pub mod Vol
 pub mod VolEntryEntry
 pub mod VolEntryOutcome
 pub mod VolEntryVol

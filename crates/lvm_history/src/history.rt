@@ -1,7 +1,7 @@
 //! The list of what was asked and answered, in room that is made with it.
 ghost use Rattle.std.specs.Prelude.{◌≡◌, ◌==◌, ◌↔◌, ◌+◌, ◌-◌, ◌*◌, ◌%◌, ◌^◌, ◌<◌, ◌≤◌, ◌++◌, [], ◌∷◌, length, IfOk, IsTrue, IsSome, Some, option_copied, slice_get, true, false, vec_len, vec_capacity, replicate, take, drop};
 ghost use Rattle.std.specs.Option.{ForSome};
-ghost use Rattle.lvm_history.specs.passed.CheckerNames.{zero_sector, Legal, known, May, Ordered, Begun, empty_log, with_fact, next_id, next_request, asked, request_of, is_open, awaited, is_answered, landed_fact, got_fact, taken_fact, is_plain, plain_fact, spare_entries, open_count, landed_count, spare_bytes, cut_log, is_uncut_after, blocks_begun, blocks_of, entries_of};
+ghost use Rattle.lvm_history.specs.passed.Vol.{zero_sector, Legal, known, May, Ordered, Begun, empty_log, with_fact, next_id, next_request, asked, request_of, is_open, awaited, is_answered, landed_fact, got_fact, taken_fact, is_plain, plain_fact, spare_entries, open_count, landed_count, spare_bytes, cut_log, is_uncut_after, blocks_begun, blocks_of, entries_of};
 ghost use Rattle.lvm_chains.specs.Places.{has_landed_in, has_taken_in, landed_index};
 ghost use Rattle.lvm_history.specs.Keeping.{row_of, blocks_first, ask_found, is_open_by, awaited_by, is_answered_by, entry_kept, IsOneOfAsks};
 
@@ -34,7 +34,7 @@ pub struct History {
 }
 
 impl Model for History {
-    ghost use Rattle.lvm_history.specs.passed.CheckerNames.{Log};
+    ghost use Rattle.lvm_history.specs.passed.Vol.{Log};
 
     ghost Value = { Log };
 

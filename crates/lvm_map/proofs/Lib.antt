@@ -1,4 +1,4 @@
-pub mod RoomLemmas
+pub mod FreePartitionsLemmas
 pub mod FirstFitLemmas
 pub mod LawsLemmas
 pub mod Parts

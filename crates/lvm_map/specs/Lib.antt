@@ -1,4 +1,4 @@
 pub mod FirstFit
 pub mod Laws
 pub mod Places
-pub mod Room
+pub mod FreePartitions

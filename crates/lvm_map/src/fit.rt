@@ -3,9 +3,9 @@ ghost use Rattle.std.specs.Prelude.{◌<◌, ◌^◌, length, All, IsSome, IfSom
 ghost use Rattle.lvm_num.specs.Descriptor.{IsValid, partitions_used, volume_of};
 ghost use Rattle.lvm_num.specs.Disks.{has};
 ghost use Rattle.lvm_map.specs.FirstFit.{is_among, IsAllocated, IsFault, new_volume, more_copies};
-ghost use Rattle.lvm_map.specs.Room.{TakesNext};
+ghost use Rattle.lvm_map.specs.FreePartitions.{TakesNext};
 
-use crate::room::Room;
+use crate::free_partitions::FreePartitions;
 use lvm_num::{Descriptor, DiskSet, Pp, Rows, volume_among};
 use std::alloc::Global;
 
@@ -76,7 +76,7 @@ fn fit(
     ensures map { IfOk result (IsAllocated d.now (has usable) (record { lps = lps; copies = copies; kept = kept; old = old.now })) }
     ensures fault { IfErr result (IsFault d.now (has usable) (record { lps = lps; copies = copies; kept = kept; old = old.now })) }
 {
-    let Ok(mut room) = Room::of(alloc, d, usable) else {
+    let Ok(mut room) = FreePartitions::of(alloc, d, usable) else {
         return Err(MapFault::Memory);
     };
     let free = room.free();
@@ -94,7 +94,7 @@ fn fit(
 }
 
 // What comes behind the front of a map: the copy that is kept, or the first place that is free.
-fn next(room: &mut Room, copies: u8, kept: u8, old: &[Pp], front: &[Pp]) -> Option<Pp>
+fn next(room: &mut FreePartitions, copies: u8, kept: u8, old: &[Pp], front: &[Pp]) -> Option<Pp>
     requires copies { 0 < copies }
     requires size { length front.now < 2 ^ 40 }
     ensures { TakesNext (record { lps = 0; copies = copies; kept = kept; old = old.now }) front.now room.old room.new result }

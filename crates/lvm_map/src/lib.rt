@@ -2,9 +2,9 @@
 #![tactic(auto)]
 
 mod fit;
+mod free_partitions;
 pub mod laws;
 mod places;
-mod room;
 
 pub use fit::{MapFault, allocate, allocate_more};
 pub use places::{blocks, place};

@@ -11,7 +11,7 @@ ghost use Rattle.lvm_members.specs.Commands.{MayBeChanged, RefusesChange, IsPlan
 
 use crate::fault::RuleFault;
 use lvm_change::{as_big, few_votes_for, with_quorum};
-use lvm_core::{Driver, Prepared};
+use lvm_core::{CommandDriver, Prepared};
 use lvm_disk::Shelf;
 use lvm_num::{Descriptor, Memory};
 use lvm_status::members_there;
@@ -31,7 +31,7 @@ pub enum Plan {
 /// That of quorum checking on or off, unless something stands against it.
 pub(crate) fn plan_quorum<S: Shelf>(
     alloc: Global,
-    driver: &Driver<S>,
+    driver: &CommandDriver<S>,
     on: bool,
 ) -> Result<Plan, RuleFault>
     requires settled { TakesCommands driver.now.1 → IsSettled driver.now.1 }
@@ -53,7 +53,10 @@ pub(crate) fn plan_quorum<S: Shelf>(
 }
 
 /// That of a group that becomes big, unless something stands against it.
-pub(crate) fn plan_big<S: Shelf>(alloc: Global, driver: &Driver<S>) -> Result<Plan, RuleFault>
+pub(crate) fn plan_big<S: Shelf>(
+    alloc: Global,
+    driver: &CommandDriver<S>,
+) -> Result<Plan, RuleFault>
     requires settled { TakesCommands driver.now.1 → IsSettled driver.now.1 }
     ensures planned { IfOk result (IsPlanFor (as_big driver.now.1.descriptor) driver.now.1) }
     ensures refused { IfErr result (RefusesChange (as_big driver.now.1.descriptor) driver.now.1) }
@@ -68,7 +71,7 @@ pub(crate) fn plan_big<S: Shelf>(alloc: Global, driver: &Driver<S>) -> Result<Pl
 }
 
 /// Whether the session takes a command.
-pub(crate) fn can_take<S: Shelf>(driver: &Driver<S>) -> Result<(), RuleFault>
+pub(crate) fn can_take<S: Shelf>(driver: &CommandDriver<S>) -> Result<(), RuleFault>
     ensures takes { IfOk result (λ done. TakesCommands driver.now.1) }
     ensures group { IfOk result (λ done. AreOfOneGroup driver.now.1) }
     ensures refused { IfErr result (λ why. (next : Group) → RefusesChange next driver.now.1 why) }
@@ -83,7 +86,7 @@ pub(crate) fn can_take<S: Shelf>(driver: &Driver<S>) -> Result<(), RuleFault>
 }
 
 // What stands against the change to a descriptor on a session that takes commands.
-fn check<S: Shelf>(driver: &Driver<S>, next: &Descriptor) -> Result<(), RuleFault>
+fn check<S: Shelf>(driver: &CommandDriver<S>, next: &Descriptor) -> Result<(), RuleFault>
     requires takes { TakesCommands driver.now.1 }
     requires settled { IsSettled driver.now.1 }
     requires valid { IsValid next.now }
@@ -106,7 +109,11 @@ fn check<S: Shelf>(driver: &Driver<S>, next: &Descriptor) -> Result<(), RuleFaul
 }
 
 // A turn to the next descriptor.
-fn turn<S: Shelf>(alloc: Global, driver: &Driver<S>, next: Descriptor) -> Result<Plan, RuleFault>
+fn turn<S: Shelf>(
+    alloc: Global,
+    driver: &CommandDriver<S>,
+    next: Descriptor,
+) -> Result<Plan, RuleFault>
     requires valid { IsValid next }
     requires group { AreOfOneGroup driver.now.1 }
     requires may { MayBeChanged next driver.now.1 }
@@ -120,7 +127,11 @@ fn turn<S: Shelf>(alloc: Global, driver: &Driver<S>, next: Descriptor) -> Result
 }
 
 // The descriptor once more.
-fn restate<S: Shelf>(alloc: Global, driver: &Driver<S>, next: Descriptor) -> Result<Plan, RuleFault>
+fn restate<S: Shelf>(
+    alloc: Global,
+    driver: &CommandDriver<S>,
+    next: Descriptor,
+) -> Result<Plan, RuleFault>
     requires valid { IsValid next }
     requires group { AreOfOneGroup driver.now.1 }
     requires may { MayBeChanged next driver.now.1 }

@@ -13,7 +13,7 @@ ghost use Rattle.lvm_members.specs.Commands.{MayBeChanged, RuleGives, BigGives, 
 use crate::fault::{RuleFault, rule_fault};
 use crate::plan::{Plan, can_take, plan_big, plan_quorum};
 use lvm_core::below::Patience;
-use lvm_core::{CommitFault, Driver, Prepared};
+use lvm_core::{CommandDriver, CommitFault, Prepared};
 use lvm_disk::Shelf;
 use lvm_turnover::{Change, make_change};
 use lvm_volume_plan::has_room;
@@ -22,7 +22,7 @@ use std::alloc::Global;
 /// A group after a command that was to change it, and what that answered.
 #[derive(Drop)]
 pub struct Changed<S: Shelf> {
-    pub driver: Driver<S>,
+    pub driver: CommandDriver<S>,
     pub answer: Result<(), RuleFault>,
 }
 
@@ -35,7 +35,7 @@ pub struct Changed<S: Shelf> {
 /// session takes a command.
 pub fn set_quorum<S: Shelf>(
     alloc: Global,
-    driver: Driver<S>,
+    driver: CommandDriver<S>,
     on: bool,
     patience: &mut Patience,
 ) -> Changed<S>
@@ -62,7 +62,11 @@ pub fn set_quorum<S: Shelf>(
 /// is. All memory is taken before the first write.
 ///
 /// The causes are those of `set_quorum`, but for `NoQuorum`: the votes stay as they are.
-pub fn make_big<S: Shelf>(alloc: Global, driver: Driver<S>, patience: &mut Patience) -> Changed<S>
+pub fn make_big<S: Shelf>(
+    alloc: Global,
+    driver: CommandDriver<S>,
+    patience: &mut Patience,
+) -> Changed<S>
     // where nothing is open, nothing is under way
     requires settled { TakesCommands driver.1 → IsSettled driver.1 }
     ensures gives { BigGives patience.old.left (state_of S.device driver) (state_of S.device result.driver) result.answer }
@@ -87,7 +91,7 @@ pub fn make_big<S: Shelf>(alloc: Global, driver: Driver<S>, patience: &mut Patie
 }
 
 // What stands against a command that does nothing.
-fn stays<S: Shelf>(driver: &Driver<S>) -> Result<(), RuleFault>
+fn stays<S: Shelf>(driver: &CommandDriver<S>) -> Result<(), RuleFault>
     requires settled { TakesCommands driver.now.1 → IsSettled driver.now.1 }
     ensures { NothingGives (state_of S.device driver.now) (state_of S.device driver.now) result }
 {
@@ -100,7 +104,7 @@ fn stays<S: Shelf>(driver: &Driver<S>) -> Result<(), RuleFault>
 }
 
 // Turns a group to its next descriptor.
-fn by_turn<S: Shelf>(driver: Driver<S>, next: Change, patience: &mut Patience) -> Changed<S>
+fn by_turn<S: Shelf>(driver: CommandDriver<S>, next: Change, patience: &mut Patience) -> Changed<S>
     requires settled { IsSettled driver.1 }
     requires group { AreOfOneGroup driver.1 }
     requires may { MayBeChanged next.records.next driver.1 }
@@ -121,7 +125,11 @@ fn by_turn<S: Shelf>(driver: Driver<S>, next: Change, patience: &mut Patience) -
 }
 
 // Writes a group's descriptor once more.
-fn by_commit<S: Shelf>(driver: Driver<S>, next: Prepared, patience: &mut Patience) -> Changed<S>
+fn by_commit<S: Shelf>(
+    driver: CommandDriver<S>,
+    next: Prepared,
+    patience: &mut Patience,
+) -> Changed<S>
     requires settled { IsSettled driver.1 }
     requires group { AreOfOneGroup driver.1 }
     requires may { MayBeChanged next driver.1 }

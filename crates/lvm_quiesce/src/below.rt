@@ -1,3 +1,3 @@
 //! What is passed on from the crates below.
 
-pub use lvm_core::{Closed, Driver};
+pub use lvm_core::{Closed, CommandDriver};

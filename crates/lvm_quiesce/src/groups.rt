@@ -9,7 +9,7 @@ ghost use Rattle.lvm_group.specs.NewGroup.{IsWellFormed};
 ghost use Rattle.lvm_quiesce.specs.Groups.{BringsOnEach, CauseRose, IsStartedEach, MkvgOnceQuiet, RestGives, VaryonOnceQuiet};
 
 use crate::ends::{Quiesced, quiesce};
-use lvm_core::{Cause, Driver, Refused, Room};
+use lvm_core::{Cause, CommandDriver, Refused, Room};
 use lvm_disk::Shelf;
 use lvm_group::size_to_begin;
 use lvm_history::History;
@@ -30,7 +30,7 @@ pub fn mkvg<S: Shelf>(
     moment: u64,
     room: Room,
     patience: &mut Patience,
-) -> Result<Driver<S>, Refused<S>>
+) -> Result<CommandDriver<S>, Refused<S>>
     requires lit { HasPower (S.device shelf) }
     requires landed { HaveAllLanded history.facts }
     requires asked { IsWellFormed (record { name = name; mib = mib; disks = disks.now; force = force; moment = moment }) }
@@ -66,7 +66,7 @@ pub fn varyon<S: Shelf>(
     moment: u64,
     room: Room,
     patience: &mut Patience,
-) -> Result<Driver<S>, Refused<S>>
+) -> Result<CommandDriver<S>, Refused<S>>
     requires lit { HasPower (S.device shelf) }
     requires landed { HaveAllLanded history.facts }
     requires room { IsRoom room }

@@ -9,7 +9,7 @@ use Rattle.lvm_num.specs.declared.record.Stamp.{Stamp}
 use Rattle.lvm_num.specs.Record.{Stamped, announced, joined, may_be, payload_of, record_in, slot_size, slot_start}
 use Rattle.lvm_num.proofs.RecordLemmas.Newest.{of_two}
 use Rattle.lvm_num.proofs.RecordLemmas.Records.{both_true, bytes-drop, bytes-take, then_is}
-use Rattle.lvm_quorum.specs.passed.Area.{held, newest_on, read_under, slot_of, Image, IsWholeImage, has_records, newest_at, descriptor_on, status_on}
+use Rattle.lvm_quorum.specs.passed.Transfer.{held, newest_on, read_under, slot_of, Image, IsWholeImage, has_records, newest_at, descriptor_on, status_on}
 use Rattle.lvm_num.specs.DescriptorBytes.{descriptor_of}
 use Rattle.lvm_num.specs.StatusBytes.{status_of}
 use Rattle.lvm_num.proofs.Booleans.{passed_if}

@@ -5,7 +5,7 @@ use Rattle.lvm_num.specs.declared.status.Status.{Status}
 use Rattle.lvm_num.specs.Disks.{has}
 use Rattle.lvm_num.specs.Record.{Stamped}
 use Rattle.lvm_num.specs.Votes.{all_disks, votes_in, total_votes}
-use Rattle.lvm_quorum.specs.passed.Survey.{Contents, descriptor_among, is_voter, has_quorum, status_among}
+use Rattle.lvm_quorum.specs.passed.Transfer.{Contents, descriptor_among, is_voter, has_quorum, status_among}
 use Rattle.lvm_quorum.specs.declared.choice.Choice.{Choice}
 use Rattle.lvm_quorum.specs.declared.choice.ChooseFault.{ChooseFault}
 use Rattle.lvm_quorum.specs.declared.choice.ChooseFault.TheVariants as fault

@@ -5,7 +5,7 @@ use Rattle.lvm_num.specs.declared.status.Status.{Status}
 use Rattle.lvm_num.specs.Descriptor.{IsValid}
 use Rattle.lvm_num.specs.Record.{Stamped}
 use Rattle.lvm_num.specs.Status.{IsValidStatus}
-use Rattle.lvm_quorum.specs.passed.Area.{Image, IsWholeImage, contents_of}
+use Rattle.lvm_quorum.specs.passed.Transfer.{Image, IsWholeImage, contents_of}
 
 -- a descriptor that a disk shows as its newest is valid
 abbrev pub DescriptorsAreValid : Type 0

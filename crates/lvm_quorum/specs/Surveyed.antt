@@ -6,7 +6,7 @@ use Rattle.lvm_num.specs.Descriptor.{IsValid}
 use Rattle.lvm_num.specs.Status.{IsValidStatus}
 use Rattle.lvm_num.specs.DescriptorBytes.{descriptor_of}
 use Rattle.lvm_num.specs.StatusBytes.{status_of}
-use Rattle.lvm_quorum.specs.passed.Area.{noted_of, held, slot_of, Image, Contents, has_records, contents_of}
+use Rattle.lvm_quorum.specs.passed.Transfer.{noted_of, held, slot_of, Image, Contents, has_records, contents_of}
 use Rattle.lvm_quorum.specs.declared.row.SurveyRow.{SurveyRow}
 use Rattle.lvm_quorum.specs.declared.row.Survey.{Survey}
 use Rattle.lvm_quorum.specs.Reading.{under, home_of}

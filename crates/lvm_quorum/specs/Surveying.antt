@@ -4,7 +4,7 @@ use Rattle.std.specs.Global.{Global}
 use Rattle.lvm_num.specs.Buffer.{Buffer}
 use Rattle.lvm_num.specs.Geometry.{data_start}
 use Rattle.lvm_num.specs.Note.{note_in}
-use Rattle.lvm_quorum.specs.passed.Area.{noted_of, Rose, Device, image_of, DeviceStep, Path, Stop, IsRested, IsCutOff, IsReadStuck, StopGives}
+use Rattle.lvm_quorum.specs.passed.Transfer.{noted_of, Rose, Device, image_of, DeviceStep, Path, Stop, IsRested, IsCutOff, IsReadStuck, StopGives}
 use Rattle.lvm_quorum.specs.declared.area.RecordArea.{RecordArea}
 use Rattle.lvm_quorum.specs.declared.row.Survey.{Survey}
 use Rattle.lvm_quorum.specs.declared.row.SurveyRow.{SurveyRow}

@@ -1,3 +1,2 @@
-pub mod Area
-pub mod Survey
+pub mod Transfer
 pub mod TransferMovesMoved

@@ -1,7 +1,8 @@
 //! Which groups have a name, by the newest descriptors of the disks.
 ghost use Rattle.std.specs.Prelude.{◌≡◌, ◌≢◌, ℕ, IfSome, IfNone, IsTrue, IsFalse, is_some};
 ghost use Rattle.lvm_num.specs.Votes.{all_disks};
-ghost use Rattle.lvm_quorum.specs.passed.Survey.{status_among, under};
+ghost use Rattle.lvm_quorum.specs.passed.Transfer.{status_among};
+ghost use Rattle.lvm_quorum.specs.Reading.{under};
 ghost use Rattle.lvm_quorum.specs.Surveyed.{surveyed};
 ghost use Rattle.lvm_quorum.specs.Choosing.{HasName, HasRecord, HasNoRecord};
 ghost use Rattle.lvm_quorum.specs.Groups.{IsNamedBy};

@@ -1,7 +1,8 @@
 //! A record as a disk shows it.
 ghost use Rattle.std.specs.Prelude.{◌≡◌};
 ghost use Rattle.lvm_num.specs.Record.{newer};
-ghost use Rattle.lvm_quorum.specs.passed.Survey.{if_passes, is_of, is_status_of, under};
+ghost use Rattle.lvm_quorum.specs.passed.Transfer.{if_passes, is_of, is_status_of};
+ghost use Rattle.lvm_quorum.specs.Reading.{under};
 ghost use Rattle.lvm_quorum.specs.Groups.{shown_record_if, epoch_of};
 
 use crate::row::SurveyRow;

@@ -1,6 +1,6 @@
 //! Reading the records of all disks of a shelf.
 ghost use Rattle.std.specs.Prelude.{◌≡◌, ℕ, ◌<◌, length, false};
-ghost use Rattle.lvm_quorum.specs.passed.Area.{IsReady, IsUntouched, OnlyReads};
+ghost use Rattle.lvm_quorum.specs.passed.Transfer.{IsReady, IsUntouched, OnlyReads};
 ghost use Rattle.lvm_quorum.specs.Rows.{AreRows};
 ghost use Rattle.lvm_quorum.specs.Surveyed.{IsEmpty, IsRowValid, IsSurveyValid};
 ghost use Rattle.lvm_quorum.specs.Reading.{IsAreaValid};

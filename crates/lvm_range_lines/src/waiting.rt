@@ -31,7 +31,7 @@ use lvm_disk::Shelf;
 use lvm_group_lines::below::driver::Driver;
 use lvm_group_lines::below::earlier::take_earlier;
 use lvm_group_lines::below::ranges::{Stuck, await_range, take_range};
-use lvm_group_lines::below::{Closed, Driver as CoreDriver};
+use lvm_group_lines::below::{Closed, CommandDriver};
 use lvm_group_lines::{Answered, Holder, Refusal, Stage};
 use lvm_history::History;
 use lvm_posts::{Asked, Post, RangeFault, take_closed};
@@ -126,9 +126,9 @@ fn take_in(
 
 // Takes the answer of a post while a session is on at which nothing is under way.
 fn take_one_at_rest<S: Shelf>(
-    driver: CoreDriver<S>,
+    driver: CommandDriver<S>,
     post: &Post,
-) -> (CoreDriver<S>, Result<(), RangeFault>)
+) -> (CommandDriver<S>, Result<(), RangeFault>)
     requires on { driver.1.power ≡ power.On }
     requires none { driver.1.requests ≡ [] }
     requires sound { IsSound (state_of S.device driver) }
@@ -144,15 +144,15 @@ fn take_one_at_rest<S: Shelf>(
     let (have, total) = post.ended.unwrap_or((0, 0));
     let (shelf, session) = driver.into_parts();
     let (session, answer) = take_in(session, &post.asked, have, total);
-    (CoreDriver::from_parts(shelf, session), answer)
+    (CommandDriver::from_parts(shelf, session), answer)
 }
 
 // Takes them all.
 fn take_at_rest<S: Shelf>(
     alloc: Global,
-    driver: CoreDriver<S>,
+    driver: CommandDriver<S>,
     posts: &[Post],
-) -> (CoreDriver<S>, Answers)
+) -> (CommandDriver<S>, Answers)
     requires on { driver.1.power ≡ power.On }
     requires none { driver.1.requests ≡ [] }
     requires sound { IsSound (state_of S.device driver) }
@@ -298,7 +298,7 @@ fn wait_on<S: Shelf>(
 // Answers all posts of a group without volumes, each of which is of a session that is gone.
 fn wait_at_rest<S: Shelf>(
     alloc: Global,
-    driver: CoreDriver<S>,
+    driver: CommandDriver<S>,
     posts: Vec<Post>,
     bytes: Vec<u8>,
 ) -> Answered<S>

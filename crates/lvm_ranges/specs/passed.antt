@@ -1,4 +1,3 @@
 pub mod Driver
 pub mod Names
 pub mod Tie
-pub mod ResyncNames

@@ -18,9 +18,11 @@ use Rattle.lvm_status.specs.Members.{HasItsRows}
 use Rattle.lvm_status.specs.Update.{seen}
 use Rattle.lvm_status.specs.Runs.{IsSoundStatus}
 use Rattle.lvm_path.specs.Asks.{lv_of, at_of, count_of, is_write}
+use Rattle.lvm_path.specs.declared.request.Phase.TheVariants as phase
 use Rattle.lvm_session.specs.declared.open.Open.{Open}
 use Rattle.lvm_session.specs.declared.open.Power.{Power}
 use Rattle.lvm_session.specs.declared.open.Power.TheVariants as power
+use Rattle.lvm_session.specs.declared.bringing.CopyEnd.TheVariants as ending
 use Rattle.lvm_session.specs.declared.bringing.OpenCopy.{OpenCopy}
 use Rattle.lvm_session.specs.declared.bringing.Step.{Step}
 use Rattle.lvm_session.specs.declared.bringing.Step.TheVariants as step
@@ -183,6 +185,8 @@ pub record IsMove (core : Core) (c : OpenCopy) : Type 0 where
   pub called : calls_stale core.origin.table c.pp ≡ true
   pub clear : is_running c ≡ true → is_whole core c ≡ true → is_wanted_stale core c.pp ≡ false
   pub fresh : list_any (stays_fresh core) (copies_in core.descriptor c.lv c.lp) ≡ true
+  -- it never ends as done, which is judged of it
+  pub ends : c.end ≡ Some ending.Done → ⊥
 
 -- what holds of it by what it is
 abbrev pub IsOfKind : Bool → Core → OpenCopy → Type 0
@@ -280,6 +284,17 @@ pub record HasNoneOpen (core : Core) : Type 0 where
   pub requests : core.requests ≡ []
   pub copy : core.copy ≡ None
 
+-- The request has nothing in hand; it has landed, or waits for admission and has neither a target nor a pin.
+pub record IsUnbegun (o : Open) : Type 0 where
+  pub hand : o.got ≡ None
+  pub over : is_waiting o ≡ false → IsLanded o
+  pub waits : is_waiting o ≡ true → (o.request.phase ≡ phase.Held) × (o.request.targets.items ≡ []) × (o.request.pinned ≡ false)
+
+-- no request is admitted that hasn't landed, and the copy has nothing in hand
+pub record HasNoneBegun (core : Core) : Type 0 where
+  pub requests : AllByRecursion IsUnbegun core.requests
+  pub copy : IfSome core.copy (λ (c : OpenCopy). c.step ≡ step.Idle)
+
 -- What holds of a session and its shelf at every moment.
 pub record IsSound (s : State) : Type 0 where
   pub fitting : IsFitting s.core
@@ -295,8 +310,8 @@ pub record IsSound (s : State) : Type 0 where
   -- it is off where the members that aren't missing have too few votes to write
   pub off : s.core.power ≡ power.Off → is_lost s.core ≡ true
   pub over : is_over s.core.power ≡ true → IsOver s
-  -- a session that is stuck is asked for neither requests nor copies
-  pub stuck : s.core.power ≡ power.Stuck → HasNoneOpen s.core
+  -- of a session that is stuck nothing has begun that hasn't ended but what wasn't heard of
+  pub stuck : s.core.power ≡ power.Stuck → HasNoneBegun s.core
   -- why each request that has landed did so, why the copy ended, and why disks are missing and copies stale
   pub counted : AllByRecursion (AreCounted s) s.core.requests
   pub answered : AllByRecursion (IsAnswered s) s.core.requests

@@ -8,10 +8,10 @@ use Rattle.lvm_status.specs.Calls.{first_updates}
 use Rattle.lvm_status.specs.Members.{HasItsRows}
 use Rattle.lvm_status.specs.Update.{seen}
 use Rattle.lvm_session_start.specs.declared.parts.Parts.{Parts}
-use Rattle.lvm_session_start.specs.declared.parts.Room.{Room}
+use Rattle.lvm_session_start.specs.declared.parts.SessionRoom.{SessionRoom}
 
 -- the numbers that a room may have
-pub record IsSessionRoom (room : Room) : Type 0 where
+pub record IsSessionRoom (room : SessionRoom) : Type 0 where
   pub requests : room.table ≤ 1024
   pub a_buffer : 1 ≤ room.pool
   pub buffers : room.pool ≤ 1024
@@ -27,7 +27,7 @@ pub record IsEmptyCache (d : Descriptor) (c : Cached) : Type 0 where
   pub notes : (disk : ℕ) → notes_on c disk ≡ (if is_member d disk then Some (no_notes disk) else None)
 
 -- The parts of a session of this group, which begins with this status: nothing is in use, and there is this room.
-pub record IsReserved (d : Descriptor) (s : Status) (room : Room) (p : Parts) : Type 0 where
+pub record IsReserved (d : Descriptor) (s : Status) (room : SessionRoom) (p : Parts) : Type 0 where
   pub descriptor : p.descriptor ≡ d
   pub table : p.table ≡ s
   pub room_is : p.room ≡ room

@@ -6,4 +6,4 @@ pub mod below;
 mod parts;
 
 pub use begin::{begin_session, first_session};
-pub use parts::{Parts, Room, take_parts};
+pub use parts::{Parts, SessionRoom, take_parts};

@@ -20,7 +20,7 @@ const BLOCK_BYTES: usize = 131_072;
 
 /// How much a session has room for.
 #[derive(Clone, Copy)]
-pub struct Room {
+pub struct SessionRoom {
     /// Open requests, 1 to 1,024.
     pub table: u32,
     /// Transfer buffers, 1 to 1,024. As many transfers are out at most.
@@ -34,7 +34,7 @@ pub struct Parts {
     pub descriptor: Descriptor,
     /// The status with which the session begins.
     pub table: StaleTable,
-    pub room: Room,
+    pub room: SessionRoom,
     pub requests: Vec<Open>,
     pub queue: Queue,
     pub pool: Pool,
@@ -120,7 +120,7 @@ struct Tables {
     flying: Vec<Flown>,
 }
 
-fn of_requests(alloc: Global, room: Room) -> Result<Tables, Memory>
+fn of_requests(alloc: Global, room: SessionRoom) -> Result<Tables, Memory>
     requires { IsSessionRoom room }
     ensures requests { IfOk result (λ tables. tables.requests.items ≡ []) }
     ensures capacity { IfOk result (λ tables. room.table ≤ vec_capacity tables.requests) }
@@ -149,7 +149,7 @@ fn room_of_blocks(alloc: Global) -> Result<Vec<u8>, Memory>
 }
 
 // The transfer buffers, and the room for the bytes of a status.
-fn of_blocks(alloc: Global, room: Room) -> Result<(Pool, Vec<u8>), Memory>
+fn of_blocks(alloc: Global, room: SessionRoom) -> Result<(Pool, Vec<u8>), Memory>
     requires { IsSessionRoom room }
     ensures pool { IfOk result (λ made. made.0 ≡ replicate room.pool false) }
     ensures bytes { IfOk result (λ made. length made.1.items ≡ 131072) }
@@ -167,7 +167,7 @@ struct Reserved {
     bytes: Vec<u8>,
 }
 
-fn of_room(alloc: Global, room: Room) -> Result<Reserved, Memory>
+fn of_room(alloc: Global, room: SessionRoom) -> Result<Reserved, Memory>
     requires { IsSessionRoom room }
     ensures requests { IfOk result (λ made. made.tables.requests.items ≡ []) }
     ensures capacity { IfOk result (λ made. room.table ≤ vec_capacity made.tables.requests) }
@@ -195,7 +195,7 @@ pub fn take_parts(
     alloc: Global,
     descriptor: Descriptor,
     status: &Status,
-    room: Room,
+    room: SessionRoom,
 ) -> Result<Parts, Memory>
     requires room { IsSessionRoom room }
     requires descriptor { IsValid descriptor }

@@ -15,7 +15,7 @@ use Rattle.lvm_moves.proofs.OutLemmas.{may_end}
 use Rattle.lvm_moves.specs.passed.Names.{AreInHand, IsOutIf, MayEnd}
 use Rattle.lvm_session.specs.Causes.{is_over}
 use Rattle.lvm_session.specs.Requests.{IsLanded}
-use Rattle.lvm_session.specs.Sound.{IsOver, IsSound}
+use Rattle.lvm_session.specs.Sound.{IsOver, IsSound, IsUnbegun}
 
 -- what has landed has nothing in hand
 none_in_hand : (pool : List Bool) (os : List Open) → AllByRecursion IsLanded os → AreInHand pool os
@@ -23,6 +23,17 @@ none_in_hand pool [] all = tt
 none_in_hand pool (o ∷ os) all =
     let none = all.0.hand in
     (record { out = subst (IsOutIf pool) (sym none) tt; none = λ over. none }, none_in_hand (with_back pool o.got) os all.1)
+
+-- nor has what hasn't begun
+unbegun_in_hand : (pool : List Bool) (os : List Open) → AllByRecursion IsUnbegun os → AreInHand pool os
+unbegun_in_hand pool [] all = tt
+unbegun_in_hand pool (o ∷ os) all =
+    let none = all.0.hand in
+    (record { out = subst (IsOutIf pool) (sym none) tt; none = λ over. none }, unbegun_in_hand (with_back pool o.got) os all.1)
+
+no_idle_hand : (copy : Option OpenCopy) → IfSome copy (λ (c : OpenCopy). c.step ≡ step.Idle) → hand_of_copy copy ≡ None
+no_idle_hand None idle = refl
+no_idle_hand (Some c) idle = ap hand_of idle
 
 no_hand : (copy : Option OpenCopy) → IfSome copy (λ (c : OpenCopy). (is_running c ≡ false) × (c.step ≡ step.Idle)) → hand_of_copy copy ≡ None
 no_hand None its = refl
@@ -44,9 +55,9 @@ module _ (s : State) (sound : IsSound s) where
       by_power power.Off off = over (sound.over (ap is_over off))
       by_power power.Dark dark = over (sound.over (ap is_over dark))
       by_power power.Stuck stuck =
-          let nothing = sound.stuck stuck in
+          let still = sound.stuck stuck in
           record {
             told = sound.told.table;
-            copy = subst (λ (copy : Option OpenCopy). IsOutIf s.core.pool (hand_of_copy copy)) (sym nothing.copy) tt;
-            requests = subst (AreInHand (with_back s.core.pool (hand_of_copy s.core.copy))) (sym nothing.requests) tt;
+            copy = subst (IsOutIf s.core.pool) (sym (no_idle_hand s.core.copy still.copy)) tt;
+            requests = unbegun_in_hand (with_back s.core.pool (hand_of_copy s.core.copy)) s.core.requests still.requests;
           }

@@ -12,7 +12,7 @@ use lvm_disk::Shelf;
 use lvm_num::{Name, volume_of};
 use lvm_transfer::Patience;
 use lvm_vol::Entry;
-use lvm_volume_plan::below::Driver;
+use lvm_volume_plan::below::CommandDriver;
 use lvm_volume_plan::{GroupFault, SplitPlan, check_copies};
 use lvm_volumes::commit_between;
 use std::alloc::Global;
@@ -35,7 +35,7 @@ use std::alloc::Global;
 /// `LastFresh` comes, and nothing is split. The mark of a number that no volume has means nothing.
 pub fn split<S: Shelf>(
     alloc: Global,
-    driver: &mut Driver<S>,
+    driver: &mut CommandDriver<S>,
     lv: u16,
     name: Name,
     copies: u8,
@@ -58,7 +58,7 @@ pub fn split<S: Shelf>(
 
 // Carries out the split of a plan, by which a volume keeps so many copies.
 fn part<S: Shelf>(
-    driver: &mut Driver<S>,
+    driver: &mut CommandDriver<S>,
     copies: u8,
     plan: SplitPlan,
     patience: &mut Patience,
@@ -83,7 +83,7 @@ fn part<S: Shelf>(
 }
 
 // What stands against it by the marks that the copies have now.
-fn judge_again<S: Shelf>(driver: &Driver<S>, lv: u16, copies: u8) -> Result<(), GroupFault>
+fn judge_again<S: Shelf>(driver: &CommandDriver<S>, lv: u16, copies: u8) -> Result<(), GroupFault>
     requires may { (row : LvRow) × IsToShrink lv copies driver.now.1 row }
     ensures serve { IfOk result (λ done. (row : LvRow) × IsToShrink lv copies driver.now.1 row × MayServeBoth driver.now.1.status.committed row copies) }
     ensures refused { IfErr result (λ why. (row : LvRow) × IsToShrink lv copies driver.now.1 row × RefusesCopies driver.now.1.status.committed row copies why) }

@@ -1,7 +1,7 @@
 -- Whether something else is wanted than is committed.
 use Rattle.std.proofs.Common.{◌≡◌, Bool, true, false, not, refl, sym, ◌∙◌}
 use Rattle.std.specs.Prelude.{◌≢◌, ◌↔◌, IsTrue}
-use Rattle.lvm_status.specs.passed.StaleNames.{Status}
+use Rattle.lvm_status.specs.passed.Num.{Status}
 
 -- by the tables that stand for two statuses
 pub differ_by : (a b x y : Status) (same : Bool) → x ≡ a → y ≡ b → (IsTrue same ↔ (x ≡ y)) → (IsTrue (not same) ↔ (a ≢ b))

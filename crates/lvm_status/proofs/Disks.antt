@@ -5,7 +5,7 @@ use Rattle.std.specs.List.{list_any}
 use Rattle.std.proofs.lemmas.Bool.{eq-eqb, eqb-true, false_from_ne_true}
 use Rattle.std.proofs.lemmas.Bool.Decides.{eqb_tells}
 use Rattle.std.proofs.lemmas.List.Folds.{Any-from_list_any, list_any_more}
-use Rattle.lvm_status.specs.passed.StaleNames.{PvRow, Descriptor, IsValid, is_member, Disks}
+use Rattle.lvm_status.specs.passed.Num.{PvRow, Descriptor, IsValid, is_member, Disks}
 pub use Rattle.std.proofs.lemmas.Bool.{cases_Bool as bool_tells}
 
 -- sets with the same disks

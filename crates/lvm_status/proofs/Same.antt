@@ -3,8 +3,8 @@ use Rattle.std.proofs.Common.{◌≡◌, Bool, true, false, ◌&&◌, refl, subs
 use Rattle.std.proofs.Math.Bool.{beq}
 use Rattle.std.proofs.lemmas.Bool.{eq-eqb, eqb-true, false≢true, and_from}
 use lib.Pointwise.{pointwise, pointwise_decides, bytes_decides}
-use Rattle.lvm_status.specs.passed.StaleNames.{StatusRow, Status}
-use Rattle.lvm_status.proofs.passed.StaleNames.{first_holds, second_holds}
+use Rattle.lvm_status.specs.passed.Num.{StatusRow, Status}
+use Rattle.lvm_status.proofs.passed.Num.{first_holds, second_holds}
 
 bools : (a b : Bool) → beq a b ≡ true → a ≡ b
 bools true true e = refl

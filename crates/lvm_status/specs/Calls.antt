@@ -1,6 +1,6 @@
 -- How each call changes the status of a session.
 use Rattle.std.specs.Prelude.{◌≡◌, ℕ, ◌+◌, ◌<◌, Bool, true, false, ◌&&◌, ◌||◌, ◌==◌, not, if◌then◌else◌, IsTrue, [], Option, Some, None, unwrap_or}
-use Rattle.lvm_status.specs.passed.StaleNames.{Pp, Descriptor, Status, Disks, calls_stale, calls_missing, calls_dirty, is_pp, IsVolumeNumber}
+use Rattle.lvm_status.specs.passed.Num.{Pp, Descriptor, Status, Disks, calls_stale, calls_missing, calls_dirty, is_pp, IsVolumeNumber}
 use Rattle.lvm_status.specs.Table.{has_row, SameMembers, SameStale, SameMissing}
 use Rattle.lvm_status.specs.declared.change.Change.{Change}
 use Rattle.lvm_status.specs.declared.change.Change.TheVariants as change

@@ -1,7 +1,7 @@
 -- Tables with a row for each member, and what is true of an updater's tables and sets.
 use Rattle.std.specs.Prelude.{◌≡◌, ℕ, Bool, true, length, map}
 use Rattle.std.specs.List.{list_all}
-use Rattle.lvm_status.specs.passed.StaleNames.{PvRow, Descriptor, StatusRow, Status, is_member, IsValid, has}
+use Rattle.lvm_status.specs.passed.Num.{PvRow, Descriptor, StatusRow, Status, is_member, IsValid, has}
 use Rattle.lvm_status.specs.Table.{has_row}
 use Rattle.lvm_status.specs.declared.writes.Writes.{Writes}
 

@@ -1,6 +1,6 @@
 -- What the end of a write is answered with.
 use Rattle.std.specs.Prelude.{Bool, ℕ, if◌then◌else◌}
-use Rattle.lvm_status.specs.passed.StaleNames.{Descriptor, total_votes, is_enough_to_write}
+use Rattle.lvm_status.specs.passed.Num.{Descriptor, total_votes, is_enough_to_write}
 use Rattle.lvm_status.specs.declared.change.Progress.{Progress}
 use Rattle.lvm_status.specs.declared.change.Progress.TheVariants as progress
 

@@ -1,7 +1,7 @@
 -- What a session's calls make of its status, call after call, and what stays true.
 use Rattle.std.specs.Prelude.{◌≡◌, ◌⊎◌, ℕ, Bool, true, false, ◌||◌, List, [], ◌∷◌, Some, None}
 use Rattle.std.specs.List.{list_any}
-use Rattle.lvm_status.specs.passed.StaleNames.{Pp, IsLowest, Stamp, Descriptor, Status, is_member, is_pp, stamp_lt, calls_stale, calls_missing, CanWrite}
+use Rattle.lvm_status.specs.passed.Num.{Pp, IsLowest, Stamp, Descriptor, Status, is_member, is_pp, stamp_lt, calls_stale, calls_missing, CanWrite}
 use Rattle.lvm_status.specs.declared.change.Change.{Change}
 use Rattle.lvm_status.specs.declared.change.Change.TheVariants as change
 use Rattle.lvm_status.specs.Update.{Updates, with_disk, is_there, is_held, is_owed, is_settled_stale, MayStartUpdate}

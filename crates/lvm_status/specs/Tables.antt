@@ -1,6 +1,6 @@
 -- The tables that a session's status needs once its group has other members.
 use Rattle.std.specs.Prelude.{◌≡◌, [], length}
-use Rattle.lvm_status.specs.passed.StaleNames.{Descriptor, Status, IsValid}
+use Rattle.lvm_status.specs.passed.Num.{Descriptor, Status, IsValid}
 use Rattle.lvm_status.specs.Rerowed.{HasRowsOf}
 
 -- The group as it will be, of which the members and their votes matter, and a status in its rows.

@@ -1,7 +1,7 @@
 -- The status of a session: what is committed, what is in flight and what is wanted.
 use Rattle.std.specs.Prelude.{◌≡◌, ℕ, Bool, false, ◌&&◌, ◌||◌, ◌==◌, not, Option, None, unwrap_or}
 use Rattle.std.specs.List.{list_any}
-use Rattle.lvm_status.specs.passed.StaleNames.{Pp, Stamp, PvRow, Descriptor, Status, is_member, Disks, has, calls_stale, calls_missing, votes_in, is_enough_to_write}
+use Rattle.lvm_status.specs.passed.Num.{Pp, Stamp, PvRow, Descriptor, Status, is_member, Disks, has, calls_stale, calls_missing, votes_in, is_enough_to_write}
 use Rattle.lvm_status.specs.declared.writes.Writes.{Writes}
 
 -- The group, of which the members and their votes matter; the committed status, the wanted one and the one in

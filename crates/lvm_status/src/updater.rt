@@ -2,7 +2,7 @@
 ghost use Rattle.std.specs.Prelude.{All, ◌≡◌, ◌≢◌, ◌↔◌, ◌<◌, ◌+◌, ◌^◌, None, [], ◌||◌, IsTrue, IfOk, if◌then◌else◌};
 ghost use Rattle.std.specs.List.{list_any};
 ghost use Rattle.std.specs.Option.{option_copied};
-ghost use Rattle.lvm_status.specs.passed.StaleNames.{PvRow, IsValid, IsLaidOut, partitions_in, total_votes, has, IsLowest};
+ghost use Rattle.lvm_status.specs.passed.Num.{PvRow, IsValid, IsLaidOut, partitions_in, total_votes, has, IsLowest};
 ghost use Rattle.lvm_status.specs.Marking.{IsLeftIn, MarksLost, HasMark};
 ghost use Rattle.lvm_status.specs.Members.{HasItsRows, all_rows, all_members};
 ghost use Rattle.lvm_status.specs.Rerowed.{IsRerowed};

@@ -17,7 +17,7 @@ pub struct Writes {
 }
 
 impl Writes {
-    ghost use Rattle.lvm_status.specs.passed.StaleNames.{has};
+    ghost use Rattle.lvm_status.specs.passed.Num.{has};
     ghost use Rattle.lvm_status.specs.Update.{no_disks};
 
     /// An update whose writes to these disks are still to be started.

@@ -12,7 +12,7 @@ ghost use Rattle.lvm_turnover.specs.Changing.{ChangeEnds, ChangeLeaves};
 use crate::turning::turn_session;
 use lvm_change::Records;
 use lvm_core::below::Patience;
-use lvm_core::{CommitFault, Driver};
+use lvm_core::{CommandDriver, CommitFault};
 use lvm_disk::Shelf;
 use lvm_num::{Descriptor, Memory};
 use lvm_status::{StaleTable, Updater};
@@ -52,10 +52,10 @@ impl Change {
 /// nothing can be committed any more, only looked at, and the session closed. After each of them the next descriptor may be found when the group is
 /// varied on again.
 pub fn make_change<S: Shelf>(
-    driver: Driver<S>,
+    driver: CommandDriver<S>,
     change: Change,
     patience: &mut Patience,
-) -> (Driver<S>, Result<(), CommitFault>)
+) -> (CommandDriver<S>, Result<(), CommitFault>)
     requires settled { IsSettled driver.1 }
     requires numbers { HasSpareNumbers driver.1 }
     requires ready { IsReadyFor driver.1.status.committed change }
@@ -73,5 +73,5 @@ pub fn make_change<S: Shelf>(
         change.updater,
         patience,
     );
-    (Driver::from_parts(shelf, session), answer)
+    (CommandDriver::from_parts(shelf, session), answer)
 }

@@ -38,7 +38,7 @@ use Rattle.lvm_write.proofs.ShowsLemmas.{descriptor_may_be_written, status_may_b
 use Rattle.lvm_quorum.specs.declared.row.SurveyRow.{SurveyRow}
 use Rattle.lvm_quorum.specs.declared.row.Survey.{Survey}
 use Rattle.lvm_quorum.specs.Surveyed.{surveyed}
-use Rattle.lvm_quorum.specs.passed.Survey.{under}
+use Rattle.lvm_quorum.specs.Reading.{under}
 use Rattle.lvm_varyon.specs.passed.Names.{Room}
 use Rattle.lvm_write.specs.Beginning.{Beginning, describes, states, MayBeginAgain}
 use Rattle.lvm_write.specs.Next.{IsNextStatus, has_passive}

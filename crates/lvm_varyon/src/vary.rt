@@ -13,7 +13,7 @@ ghost use Rattle.lvm_varyon.specs.Second.{last_seq};
 ghost use Rattle.lvm_varyon.specs.Parts.{IsPlannedBy, plan_beginning};
 ghost use Rattle.lvm_varyon.specs.Equal.{AllWritesGive, AllWritesKeep, MayWritePlan};
 
-use crate::below::{Cause, Driver, Parts, Refused, Room};
+use crate::below::{Cause, CommandDriver, Parts, Refused, Room};
 use crate::plan::{Plan, plan_of};
 use crate::writes::{make_equal, read_disks, write_plan};
 use lvm_disk::Shelf;
@@ -47,7 +47,7 @@ pub fn varyon<S: Shelf>(
     moment: u64,
     room: Room,
     patience: &mut Patience,
-) -> Result<Driver<S>, Refused<S>>
+) -> Result<CommandDriver<S>, Refused<S>>
     requires ready { IsReady (S.device shelf) }
     requires landed { HaveAllLanded history.facts }
     requires room { IsRoom room }
@@ -69,7 +69,7 @@ pub fn varyon<S: Shelf>(
                 epoch: moment,
                 seq: begun.1,
             };
-            Ok(Driver::start(begun.0, shelf, history, stamp, homes))
+            Ok(CommandDriver::start(begun.0, shelf, history, stamp, homes))
         }
         Err(cause) => Err(refused(shelf, history, cause)),
     }

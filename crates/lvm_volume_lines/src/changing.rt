@@ -14,7 +14,7 @@ use crate::below::Post;
 use crate::below::members::{Changed, RuleFault, make_big, set_quorum};
 use crate::below::stage::{Answered, Refusal, Reply, Stage};
 use crate::volumes::{close_after, come_to_rest, drain_refusal, go_on};
-use lvm_core::Driver;
+use lvm_core::CommandDriver;
 use lvm_disk::Shelf;
 use lvm_num::Name;
 use lvm_range_lines::below::volumes::GroupFault;
@@ -55,7 +55,7 @@ fn ending_of(why: RuleFault) -> Option<GroupFault>
 
 // What a change leaves of a session that has failed so.
 fn after_change_fault<S: Shelf>(
-    driver: Driver<S>,
+    driver: CommandDriver<S>,
     posts: Vec<Post>,
     bytes: Vec<u8>,
     why: RuleFault,
@@ -75,7 +75,7 @@ fn after_change_fault<S: Shelf>(
 
 // What a change leaves of a session that was answered so.
 fn after_change<S: Shelf>(
-    driver: Driver<S>,
+    driver: CommandDriver<S>,
     posts: Vec<Post>,
     bytes: Vec<u8>,
     done: Result<(), RuleFault>,
@@ -96,7 +96,7 @@ fn after_change<S: Shelf>(
 // Switches quorum checking of the group of a session on or off.
 fn switch_quorum<S: Shelf>(
     alloc: Global,
-    driver: Driver<S>,
+    driver: CommandDriver<S>,
     posts: Vec<Post>,
     bytes: Vec<u8>,
     on: bool,
@@ -114,7 +114,7 @@ fn switch_quorum<S: Shelf>(
 // Makes the group of a session big.
 fn become_big<S: Shelf>(
     alloc: Global,
-    driver: Driver<S>,
+    driver: CommandDriver<S>,
     posts: Vec<Post>,
     bytes: Vec<u8>,
     patience: &mut Patience,

@@ -11,7 +11,7 @@ ghost use Rattle.lvm_volume_lines.specs.Commands.{IsLeftOff};
 use crate::below::Post;
 use crate::below::stage::{Answered, Holder, Refusal, Reply, Stage};
 use crate::volumes::{close_after, come_to_rest, drain_refusal};
-use lvm_core::{Closed, Driver};
+use lvm_core::{Closed, CommandDriver};
 use lvm_disk::Shelf;
 use lvm_num::{Descriptor, LvRow, Mode, Name};
 use lvm_range_lines::below::group_lines;
@@ -54,7 +54,7 @@ fn is_dirty_on<S: Shelf>(holder: &Holder<S>) -> bool
 }
 
 // Closes a session at which nothing is out. Its posts have ended.
-fn close_lit<S: Shelf>(driver: Driver<S>, posts: Vec<Post>, bytes: Vec<u8>) -> Stage<S>
+fn close_lit<S: Shelf>(driver: CommandDriver<S>, posts: Vec<Post>, bytes: Vec<u8>) -> Stage<S>
     requires ready { IsReady (S.device driver.0) }
     ensures { IsLeftOff S.device driver posts bytes result }
 {
@@ -71,7 +71,7 @@ fn close_lit<S: Shelf>(driver: Driver<S>, posts: Vec<Post>, bytes: Vec<u8>) -> S
 
 // Drops the marks that aren't needed of a session at which nothing is under way, and closes it.
 fn tidy_away<S: Shelf>(
-    driver: Driver<S>,
+    driver: CommandDriver<S>,
     posts: Vec<Post>,
     bytes: Vec<u8>,
     patience: &mut Patience,

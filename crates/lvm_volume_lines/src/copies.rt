@@ -13,7 +13,7 @@ use crate::below::Post;
 use crate::below::mirrors::{mklvcopy, rmlvcopy};
 use crate::below::stage::{Answered, Refusal, Reply, Stage};
 use crate::volumes::{after_fault, come_to_rest, drain_refusal, go_on};
-use lvm_core::Driver;
+use lvm_core::CommandDriver;
 use lvm_disk::Shelf;
 use lvm_num::Name;
 use lvm_transfer::Patience;
@@ -22,7 +22,7 @@ use std::alloc::Global;
 // Gives a volume of the group of a session further copies.
 fn add_copies<S: Shelf>(
     alloc: Global,
-    driver: Driver<S>,
+    driver: CommandDriver<S>,
     posts: Vec<Post>,
     bytes: Vec<u8>,
     lv: u16,
@@ -44,7 +44,7 @@ fn add_copies<S: Shelf>(
 // Leaves a volume of the group of a session fewer copies.
 fn remove_copies<S: Shelf>(
     alloc: Global,
-    driver: Driver<S>,
+    driver: CommandDriver<S>,
     posts: Vec<Post>,
     bytes: Vec<u8>,
     lv: u16,

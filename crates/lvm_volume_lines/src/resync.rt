@@ -97,7 +97,7 @@ pub fn do_sync_volume<S: Shelf>(stage: &mut Stage<S>, name: Name) -> Reply
 }
 
 // Whether more than 65,535 numbers are left for the stamps of records, as the reply in a group without volumes.
-fn numbers_reply<S: Shelf>(driver: &lvm_core::Driver<S>) -> Reply
+fn numbers_reply<S: Shelf>(driver: &lvm_core::CommandDriver<S>) -> Reply
     ensures { result ≡ numbers_reply driver.now.1 }
 {
     if driver.numbers_left() < 65_536 {

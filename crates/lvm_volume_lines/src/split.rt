@@ -13,7 +13,7 @@ use crate::below::Post;
 use crate::below::split::split;
 use crate::below::stage::{Answered, Refusal, Stage};
 use crate::volumes::{after, come_to_rest, drain_refusal, go_on};
-use lvm_core::Driver;
+use lvm_core::CommandDriver;
 use lvm_disk::Shelf;
 use lvm_num::Name;
 use lvm_transfer::Patience;
@@ -22,7 +22,7 @@ use std::alloc::Global;
 // Splits a volume of the group of a session.
 fn split_volume<S: Shelf>(
     alloc: Global,
-    driver: Driver<S>,
+    driver: CommandDriver<S>,
     posts: Vec<Post>,
     bytes: Vec<u8>,
     lv: u16,

@@ -14,7 +14,7 @@ ghost use Rattle.lvm_volume_lines.specs.Commands.{HasBrokenOff, HasRested, IsCar
 ghost use Rattle.lvm_volume_lines.specs.Volumes.{MklvDoes, RmlvDoes, drain_refusal, refusal_for, volume_reply, wanted};
 ghost use Rattle.lvm_range_lines.specs.passed.Names.{ends_session, is_over};
 
-use lvm_core::{Closed, CommitFault, Driver};
+use lvm_core::{Closed, CommandDriver, CommitFault};
 use lvm_disk::Shelf;
 use lvm_num::{Mode, Name, Policy, Pp};
 use lvm_range_lines::below::handover::{serve, settle};
@@ -89,7 +89,7 @@ fn relight_after_fault<S: Shelf>(shelf: &mut S, why: GroupFault)
 
 /// Closes a session that is over by a fault. Its posts have ended with its votes.
 pub fn close_after<S: Shelf>(
-    driver: Driver<S>,
+    driver: CommandDriver<S>,
     posts: Vec<Post>,
     bytes: Vec<u8>,
     why: GroupFault,
@@ -116,7 +116,7 @@ pub fn close_after<S: Shelf>(
 
 // Who holds the session of a group on which a command has been carried out: it takes requests where it has a volume, and
 // the copies that the command added count as stale since it began.
-fn hold<S: Shelf>(driver: Driver<S>, added: &[Pp]) -> Holder<S>
+fn hold<S: Shelf>(driver: CommandDriver<S>, added: &[Pp]) -> Holder<S>
     requires rows { HasItsRows driver.1.descriptor driver.1.origin.table }
     requires markable { All (IsMarkable driver.1.origin.table) added.now }
     requires may { MayServeWith added.now (state_of S.device driver) }
@@ -134,7 +134,7 @@ fn hold<S: Shelf>(driver: Driver<S>, added: &[Pp]) -> Holder<S>
 
 /// The stage of a session that goes on behind a command which has added these copies.
 pub fn go_on<S: Shelf>(
-    driver: Driver<S>,
+    driver: CommandDriver<S>,
     posts: Vec<Post>,
     bytes: Vec<u8>,
     added: &[Pp],
@@ -155,7 +155,7 @@ pub fn go_on<S: Shelf>(
 
 /// What a command leaves of a session that has failed so.
 pub fn after_fault<S: Shelf>(
-    driver: Driver<S>,
+    driver: CommandDriver<S>,
     posts: Vec<Post>,
     bytes: Vec<u8>,
     why: GroupFault,
@@ -176,7 +176,7 @@ pub fn after_fault<S: Shelf>(
 
 /// What a command that adds no copies leaves of a session that was answered so.
 pub fn after<S: Shelf, T: Copy>(
-    driver: Driver<S>,
+    driver: CommandDriver<S>,
     posts: Vec<Post>,
     bytes: Vec<u8>,
     done: Result<T, GroupFault>,
@@ -198,7 +198,7 @@ pub fn after<S: Shelf, T: Copy>(
 pub fn come_to_rest<S: Shelf>(
     holder: Holder<S>,
     patience: &mut Patience,
-) -> Result<Driver<S>, (driver::Driver<S>, CommitFault)>
+) -> Result<CommandDriver<S>, (driver::Driver<S>, CommitFault)>
     requires kind { IsOfKind holder }
     requires on { IsSome (session_of holder) }
     requires between { IfSome (session_of holder) (IsOnBetween (S.device (shelf_of holder))) }
@@ -228,7 +228,7 @@ pub fn come_to_rest<S: Shelf>(
 // Makes a volume of the group of a session.
 fn make_volume<S: Shelf>(
     alloc: Global,
-    driver: Driver<S>,
+    driver: CommandDriver<S>,
     posts: Vec<Post>,
     bytes: Vec<u8>,
     name: Name,
@@ -262,7 +262,7 @@ fn make_volume<S: Shelf>(
 // Removes a volume of the group of a session.
 fn remove_volume<S: Shelf>(
     alloc: Global,
-    driver: Driver<S>,
+    driver: CommandDriver<S>,
     posts: Vec<Post>,
     bytes: Vec<u8>,
     lv: u16,

@@ -1,4 +1,4 @@
 //! What is passed on from the crates below.
 
 pub use lvm_core::below::Patience;
-pub use lvm_core::{CommitFault, Driver, Prepared};
+pub use lvm_core::{CommandDriver, CommitFault, Prepared};

@@ -7,7 +7,7 @@ ghost use Rattle.lvm_volume_plan.specs.PlannedVolume.{AreOfOneGroup};
 ghost use Rattle.lvm_volume_plan.specs.CopiesFaults.{MayGrow, HasFurtherPlaces, MayBeAdded, RefusesMklvcopy, MayShrink, has_fresh, has_usable, is_loss, IsFirstLoss, LosesNone, MayBeTaken, RefusesRmlvcopy};
 ghost use Rattle.lvm_volume_plan.specs.PlannedCopies.{ArePlanned, IsWithFewer};
 
-use crate::below::{Driver, Prepared};
+use crate::below::{CommandDriver, Prepared};
 use crate::fault::GroupFault;
 use crate::new_volume::{has_room, takes_commands};
 use crate::with_copies::{copies_at, first_copies, further_copies, with_copies};
@@ -31,7 +31,7 @@ impl MoreCopies {
     /// Those with which a volume has so many copies, unless something stands against them.
     pub fn new<S: Shelf>(
         alloc: Global,
-        driver: &Driver<S>,
+        driver: &CommandDriver<S>,
         lv: u16,
         copies: u8,
     ) -> Result<MoreCopies, GroupFault>
@@ -54,7 +54,7 @@ impl MoreCopies {
 /// The descriptor in which a volume keeps its first copies, up to so many, unless something stands against it.
 pub fn prepare_fewer<S: Shelf>(
     alloc: Global,
-    driver: &Driver<S>,
+    driver: &CommandDriver<S>,
     lv: u16,
     copies: u8,
 ) -> Result<Prepared, GroupFault>
@@ -73,7 +73,7 @@ pub fn prepare_fewer<S: Shelf>(
 }
 
 // What stands against more copies before places are looked for.
-fn check_more<S: Shelf>(driver: &Driver<S>, lv: u16, copies: u8) -> Result<(), GroupFault>
+fn check_more<S: Shelf>(driver: &CommandDriver<S>, lv: u16, copies: u8) -> Result<(), GroupFault>
     ensures may { IfOk result (λ done. (row : LvRow) × MayGrow lv copies driver.now.1 row) }
     ensures group { IfOk result (λ done. AreOfOneGroup driver.now.1) }
     ensures refused { IfErr result (RefusesMklvcopy lv copies driver.now.1) }
@@ -91,7 +91,7 @@ fn check_more<S: Shelf>(driver: &Driver<S>, lv: u16, copies: u8) -> Result<(), G
 // The whole map with more copies by first fit, on the members that aren't missing.
 fn places<S: Shelf>(
     alloc: Global,
-    driver: &Driver<S>,
+    driver: &CommandDriver<S>,
     lv: u16,
     copies: u8,
 ) -> Result<Rows<Pp>, GroupFault>
@@ -112,7 +112,7 @@ fn places<S: Shelf>(
 // What is planned for a volume with this map, against which nothing stands.
 fn more<S: Shelf>(
     alloc: Global,
-    driver: &Driver<S>,
+    driver: &CommandDriver<S>,
     lv: u16,
     copies: u8,
     map: Rows<Pp>,
@@ -135,7 +135,7 @@ fn more<S: Shelf>(
 }
 
 // What stands against fewer copies before their marks are looked at.
-fn check_fewer<S: Shelf>(driver: &Driver<S>, lv: u16, copies: u8) -> Result<(), GroupFault>
+fn check_fewer<S: Shelf>(driver: &CommandDriver<S>, lv: u16, copies: u8) -> Result<(), GroupFault>
     ensures may { IfOk result (λ done. (row : LvRow) × MayShrink lv copies driver.now.1 row) }
     ensures group { IfOk result (λ done. AreOfOneGroup driver.now.1) }
     ensures refused { IfErr result (RefusesRmlvcopy lv copies driver.now.1) }
@@ -151,7 +151,7 @@ fn check_fewer<S: Shelf>(driver: &Driver<S>, lv: u16, copies: u8) -> Result<(), 
 }
 
 // What stands against it by the marks of the copies.
-fn check_fresh<S: Shelf>(driver: &Driver<S>, lv: u16, copies: u8) -> Result<(), GroupFault>
+fn check_fresh<S: Shelf>(driver: &CommandDriver<S>, lv: u16, copies: u8) -> Result<(), GroupFault>
     requires may { (row : LvRow) × MayShrink lv copies driver.now.1 row }
     ensures none { IfOk result (λ done. (row : LvRow) × LosesNone lv copies driver.now.1 row) }
     ensures refused { IfErr result (RefusesRmlvcopy lv copies driver.now.1) }
@@ -216,7 +216,7 @@ pub fn has_usable(table: &StaleTable, copies: &[Pp]) -> bool
 // The descriptor with fewer copies, against which nothing stands.
 fn fewer<S: Shelf>(
     alloc: Global,
-    driver: &Driver<S>,
+    driver: &CommandDriver<S>,
     lv: u16,
     copies: u8,
 ) -> Result<Prepared, Memory>

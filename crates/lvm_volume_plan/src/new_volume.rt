@@ -10,7 +10,7 @@ ghost use Rattle.lvm_volume_plan.specs.PlannedVolume.{AreOfOneGroup, IsPlannedVo
 use crate::fault::GroupFault;
 use crate::next::{lowest_free, with_volume, without_volume};
 use lvm_core::below::Power;
-use lvm_core::{Driver, Prepared};
+use lvm_core::{CommandDriver, Prepared};
 use lvm_disk::Shelf;
 use lvm_map::{MapFault, allocate, blocks};
 use lvm_num::{Descriptor, LvRow, Memory, Mode, Name, Policy, Pp, Rows};
@@ -51,7 +51,7 @@ impl VolumePlan {
     /// That of a new volume, unless something stands against it.
     pub fn new<S: Shelf>(
         alloc: Global,
-        driver: &Driver<S>,
+        driver: &CommandDriver<S>,
         v: &NewVolume,
     ) -> Result<VolumePlan, GroupFault>
         requires settled { TakesCommands driver.now.1 → IsSettled driver.now.1 }
@@ -74,7 +74,7 @@ impl VolumePlan {
 /// The descriptor without the volume of this number, unless something stands against its removal.
 pub fn prepare_without<S: Shelf>(
     alloc: Global,
-    driver: &Driver<S>,
+    driver: &CommandDriver<S>,
     lv: u16,
 ) -> Result<Prepared, GroupFault>
     ensures without { IfOk result (IsWithout lv driver.now.1) }
@@ -94,7 +94,7 @@ pub fn prepare_without<S: Shelf>(
 }
 
 /// Whether the session takes a command.
-pub fn takes_commands<S: Shelf>(driver: &Driver<S>) -> Result<(), GroupFault>
+pub fn takes_commands<S: Shelf>(driver: &CommandDriver<S>) -> Result<(), GroupFault>
     ensures takes { IfOk result (λ done. TakesCommands driver.now.1) }
     ensures group { IfOk result (λ done. AreOfOneGroup driver.now.1) }
     ensures refused { IfErr result (RefusesAll driver.now.1) }
@@ -117,7 +117,7 @@ pub fn takes_commands<S: Shelf>(driver: &Driver<S>) -> Result<(), GroupFault>
 }
 
 // What stands against a new volume before places are looked for.
-fn check<S: Shelf>(driver: &Driver<S>, v: &NewVolume) -> Result<(), GroupFault>
+fn check<S: Shelf>(driver: &CommandDriver<S>, v: &NewVolume) -> Result<(), GroupFault>
     ensures may { IfOk result (λ done. HasNumber v.now driver.now.1) }
     ensures group { IfOk result (λ done. AreOfOneGroup driver.now.1) }
     ensures refused { IfErr result (RefusesMklv v.now driver.now.1) }
@@ -154,7 +154,7 @@ pub fn most_volumes(d: &Descriptor) -> u32
 // The places of a new volume by first fit, on the members that aren't missing.
 fn places<S: Shelf>(
     alloc: Global,
-    driver: &Driver<S>,
+    driver: &CommandDriver<S>,
     v: &NewVolume,
 ) -> Result<Rows<Pp>, GroupFault>
     requires settled { IsSettled driver.now.1 }
@@ -172,7 +172,7 @@ fn places<S: Shelf>(
 }
 
 /// Whether enough entries and sequence numbers are left for a command.
-pub fn has_room<S: Shelf>(driver: &Driver<S>) -> bool
+pub fn has_room<S: Shelf>(driver: &CommandDriver<S>) -> bool
     ensures { IsTrue result ↔ HasSpareRoom driver.now.1 }
 {
     driver.history().spare_entries() >= ENTRIES && driver.numbers_left() >= NUMBERS
@@ -181,7 +181,7 @@ pub fn has_room<S: Shelf>(driver: &Driver<S>) -> bool
 // The plan of a volume with this map, against which nothing stands.
 fn plan<S: Shelf>(
     alloc: Global,
-    driver: &Driver<S>,
+    driver: &CommandDriver<S>,
     v: &NewVolume,
     map: Rows<Pp>,
 ) -> Result<VolumePlan, Memory>
@@ -245,7 +245,7 @@ fn partition_blocks(mib: u16) -> u64
 }
 
 // The descriptor without a volume.
-fn without<S: Shelf>(alloc: Global, driver: &Driver<S>, lv: u16) -> Result<Prepared, Memory>
+fn without<S: Shelf>(alloc: Global, driver: &CommandDriver<S>, lv: u16) -> Result<Prepared, Memory>
     ensures { IfOk result (λ next. next ≡ without_volume driver.now.1.descriptor lv) }
 {
     driver.prepare(alloc, without_volume(alloc, driver.descriptor(), lv)?)

@@ -7,7 +7,7 @@ ghost use Rattle.lvm_volume_plan.specs.CopiesFaults.{HasVolume};
 ghost use Rattle.lvm_volume_plan.specs.Split.{with_split, MayPart, has_unusable, AreUsableBehind, IsFirstUnusable, MayServeBoth, HasCopiesFor, MayBeSplit, RefusesCopies, RefusesSplit};
 ghost use Rattle.lvm_volume_plan.specs.PlannedSplit.{IsPlannedSplit};
 
-use crate::below::{Driver, Prepared};
+use crate::below::{CommandDriver, Prepared};
 use crate::copies::first_loss;
 use crate::fault::GroupFault;
 use crate::new_volume::{has_room, most_volumes, takes_commands};
@@ -33,7 +33,7 @@ impl SplitPlan {
     /// something stands against it.
     pub fn new<S: Shelf>(
         alloc: Global,
-        driver: &Driver<S>,
+        driver: &CommandDriver<S>,
         lv: u16,
         name: Name,
         copies: u8,
@@ -57,7 +57,7 @@ impl SplitPlan {
 
 // What stands against it by the names and the number of copies.
 fn check_names<S: Shelf>(
-    driver: &Driver<S>,
+    driver: &CommandDriver<S>,
     row: &LvRow,
     name: Name,
     copies: u8,
@@ -77,7 +77,7 @@ fn check_names<S: Shelf>(
 
 // What stands against it for want of room.
 fn check_room<S: Shelf>(
-    driver: &Driver<S>,
+    driver: &CommandDriver<S>,
     row: &LvRow,
     name: Name,
     copies: u8,
@@ -145,7 +145,7 @@ fn has_unusable(table: &StaleTable, copies: &[Pp]) -> bool
 // The plan of a split against which nothing stands.
 fn split_plan<S: Shelf>(
     alloc: Global,
-    driver: &Driver<S>,
+    driver: &CommandDriver<S>,
     row: &LvRow,
     name: Name,
     copies: u8,

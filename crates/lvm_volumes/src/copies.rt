@@ -8,7 +8,7 @@ ghost use Rattle.lvm_volumes.specs.MirrorStages.{MayAdd, adding, AddEnds};
 use lvm_disk::Shelf;
 use lvm_num::{Pp, Rows};
 use lvm_transfer::Patience;
-use lvm_volume_plan::below::{CommitFault, Driver, Prepared};
+use lvm_volume_plan::below::{CommandDriver, CommitFault, Prepared};
 use lvm_volume_plan::{GroupFault, MoreCopies, prepare_fewer};
 use std::alloc::Global;
 
@@ -27,7 +27,7 @@ use std::alloc::Global;
 /// their logical partition is usable.
 pub fn mklvcopy<S: Shelf>(
     alloc: Global,
-    driver: &mut Driver<S>,
+    driver: &mut CommandDriver<S>,
     lv: u16,
     copies: u8,
     patience: &mut Patience,
@@ -60,7 +60,7 @@ pub fn mklvcopy<S: Shelf>(
 /// member may be gone with the member's records, so it counts as lost here: this project's own rule.
 pub fn rmlvcopy<S: Shelf>(
     alloc: Global,
-    driver: &mut Driver<S>,
+    driver: &mut CommandDriver<S>,
     lv: u16,
     copies: u8,
     patience: &mut Patience,
@@ -81,7 +81,7 @@ pub fn rmlvcopy<S: Shelf>(
 
 // Makes partitions stale, and commits the descriptor with them.
 fn add<S: Shelf>(
-    driver: &mut Driver<S>,
+    driver: &mut CommandDriver<S>,
     added: &[Pp],
     next: Prepared,
     patience: &mut Patience,

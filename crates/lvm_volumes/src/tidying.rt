@@ -10,7 +10,7 @@ use lvm_disk::Shelf;
 use lvm_num::{Descriptor, LvRow};
 use lvm_status::StaleTable;
 use lvm_transfer::Patience;
-use lvm_volume_plan::below::{CommitFault, Driver};
+use lvm_volume_plan::below::{CommandDriver, CommitFault};
 use lvm_volume_plan::{copies_at, has_usable, is_passive};
 
 // The sequence numbers that have to be left for a status, without those of members that become missing by it.
@@ -22,8 +22,11 @@ const NUMBERS: u32 = 8;
 ///
 /// # Errors
 ///
-/// `WentOff`, `Dark` and `Stuck`, as of `Driver::mark_dirty`.
-pub fn tidy<S: Shelf>(driver: &mut Driver<S>, patience: &mut Patience) -> Result<(), CommitFault>
+/// `WentOff`, `Dark` and `Stuck`, as of `CommandDriver::mark_dirty`.
+pub fn tidy<S: Shelf>(
+    driver: &mut CommandDriver<S>,
+    patience: &mut Patience,
+) -> Result<(), CommitFault>
     requires settled { IsSettled driver.old.1 }
     ensures gives { TidyGives patience.old.left (state_of S.device driver.old) (state_of S.device driver.new) result }
     // whatever the answer
@@ -37,7 +40,7 @@ pub fn tidy<S: Shelf>(driver: &mut Driver<S>, patience: &mut Patience) -> Result
 }
 
 // Whether so many sequence numbers are left, and two more for each member that isn't missing.
-fn has_spare_numbers<S: Shelf>(driver: &Driver<S>) -> bool
+fn has_spare_numbers<S: Shelf>(driver: &CommandDriver<S>) -> bool
     requires settled { IsSettled driver.now.1 }
     ensures { IsTrue result ↔ HasSpareNumbers driver.now.1 }
 {

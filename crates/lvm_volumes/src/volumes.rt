@@ -16,7 +16,7 @@ use lvm_disk::Shelf;
 use lvm_num::{DISKS, Mode, Name, Policy, Pp, has_partition_on};
 use lvm_status::StaleTable;
 use lvm_vol::{Entry, Vol};
-use lvm_volume_plan::below::{CommitFault, Driver, Patience, Prepared};
+use lvm_volume_plan::below::{CommandDriver, CommitFault, Patience, Prepared};
 use lvm_volume_plan::{GroupFault, NewVolume, VolumePlan, prepare_without};
 use std::alloc::Global;
 
@@ -36,7 +36,7 @@ use std::alloc::Global;
 /// their logical partition is usable. No other partition becomes stale.
 pub fn mklv<S: Shelf>(
     alloc: Global,
-    driver: &mut Driver<S>,
+    driver: &mut CommandDriver<S>,
     name: Name,
     copies: u8,
     mode: Mode,
@@ -77,7 +77,7 @@ pub fn mklv<S: Shelf>(
 /// The three that come with a write may come at that status, behind both entries: the volume is removed all the same.
 pub fn rmlv<S: Shelf>(
     alloc: Global,
-    driver: &mut Driver<S>,
+    driver: &mut CommandDriver<S>,
     lv: u16,
     patience: &mut Patience,
 ) -> Result<(), GroupFault>
@@ -97,7 +97,7 @@ pub fn rmlv<S: Shelf>(
 
 // Makes the volume of a plan.
 fn make<S: Shelf>(
-    driver: &mut Driver<S>,
+    driver: &mut CommandDriver<S>,
     plan: VolumePlan,
     patience: &mut Patience,
 ) -> Result<(), CommitFault>
@@ -120,7 +120,7 @@ fn make<S: Shelf>(
 
 // Removes a volume, by the descriptor without it, and then a status in which its number isn't dirty.
 fn remove<S: Shelf>(
-    driver: &mut Driver<S>,
+    driver: &mut CommandDriver<S>,
     lv: u16,
     next: Prepared,
     patience: &mut Patience,
@@ -138,7 +138,7 @@ fn remove<S: Shelf>(
 
 // Commits a status in which the number of a volume that is gone isn't dirty. Where it isn't, nothing is written.
 fn drop_mark<S: Shelf>(
-    driver: &mut Driver<S>,
+    driver: &mut CommandDriver<S>,
     lv: u16,
     patience: &mut Patience,
 ) -> Result<(), CommitFault>
@@ -156,7 +156,7 @@ fn drop_mark<S: Shelf>(
 
 // Commits the descriptor without a volume, between the two entries of its removal.
 fn unname<S: Shelf>(
-    driver: &mut Driver<S>,
+    driver: &mut CommandDriver<S>,
     lv: u16,
     next: Prepared,
     patience: &mut Patience,
@@ -175,7 +175,7 @@ fn unname<S: Shelf>(
 
 /// Commits a descriptor between two entries of a volume.
 pub fn commit_between<S: Shelf>(
-    driver: &mut Driver<S>,
+    driver: &mut CommandDriver<S>,
     first: Entry,
     next: Prepared,
     last: Entry,
@@ -196,7 +196,7 @@ pub fn commit_between<S: Shelf>(
 
 // Makes partitions fresh, and writes zeros to them.
 fn clear<S: Shelf>(
-    driver: &mut Driver<S>,
+    driver: &mut CommandDriver<S>,
     map: &[Pp],
     patience: &mut Patience,
 ) -> Result<(), CommitFault>
@@ -232,7 +232,7 @@ fn lowest_missing(table: &StaleTable, map: &[Pp]) -> Option<u16>
 
 // Writes zeros to partitions, until a disk fails.
 fn zero_all<S: Shelf>(
-    driver: &mut Driver<S>,
+    driver: &mut CommandDriver<S>,
     map: &[Pp],
     patience: &mut Patience,
 ) -> Result<(), CommitFault>

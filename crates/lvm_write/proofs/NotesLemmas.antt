@@ -6,7 +6,7 @@ use Rattle.std.proofs.lemmas.Bool.Decides.{nat_tests}
 use Rattle.lvm_num.specs.Buffer.{Buffer, Sector}
 use Rattle.lvm_num.specs.Disks.{Disks}
 use Rattle.lvm_disk.specs.Device.{Device, image_of}
-use Rattle.lvm_quorum.specs.passed.Survey.{note_sector, ChangesBy, IsPlanned, IsOfNote, flight_of, Moved}
+use Rattle.lvm_quorum.specs.passed.Transfer.{note_sector, ChangesBy, IsPlanned, IsOfNote, flight_of, Moved}
 use Rattle.lvm_write.specs.Notes.{NoteTold}
 use Rattle.lvm_write.specs.Parts.{DoesPart}
 use Rattle.lvm_write.specs.Written.{KeepsShelf}

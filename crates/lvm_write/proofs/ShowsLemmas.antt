@@ -11,7 +11,7 @@ use Rattle.lvm_num.specs.DescriptorBytes.{descriptor_of}
 use Rattle.lvm_num.specs.StatusBytes.{status_of}
 use Rattle.lvm_num.specs.Record.{Frames}
 use Rattle.lvm_num.proofs.Booleans.{place_below}
-use Rattle.lvm_quorum.specs.passed.Survey.{MayWrite, has_records, ChangesBy, RecordWrite, MayWriteAll, IsOfRecord, StandsOn, on_disk, Homes, second_slots}
+use Rattle.lvm_quorum.specs.passed.Transfer.{MayWrite, has_records, ChangesBy, RecordWrite, MayWriteAll, IsOfRecord, StandsOn, on_disk, Homes, second_slots}
 use Rattle.lvm_quorum.proofs.passed.Names.{may_write, descriptor_shows, status_shows, wider, whole_is_new}
 use Rattle.lvm_disk.specs.Device.{Media, Image, Device, image_of, MayLeave}
 use Rattle.lvm_disk.specs.Steps.{BothTold}

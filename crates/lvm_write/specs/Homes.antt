@@ -6,7 +6,7 @@ use Rattle.lvm_num.specs.declared.record.Kind.TheVariants as kind
 use Rattle.lvm_num.specs.Disks.{Disks}
 use Rattle.lvm_num.specs.DescriptorBytes.{descriptor_of}
 use Rattle.lvm_num.specs.StatusBytes.{status_of}
-use Rattle.lvm_quorum.specs.passed.Survey.{slot_for, has_records, Homes, next_slot}
+use Rattle.lvm_quorum.specs.passed.Transfer.{slot_for, has_records, Homes, next_slot}
 use Rattle.lvm_disk.specs.Device.{Image}
 use Rattle.lvm_quorum.specs.declared.row.SurveyRow.{SurveyRow}
 use Rattle.lvm_quorum.specs.declared.row.Survey.{Survey}

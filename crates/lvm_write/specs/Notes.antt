@@ -3,7 +3,7 @@ use Rattle.std.specs.Prelude.{◌≡◌, ℕ, [], IfSome}
 use Rattle.lvm_num.specs.Buffer.{Sector}
 use Rattle.lvm_num.specs.Note.{note_bytes}
 use Rattle.lvm_disk.specs.Device.{Device}
-use Rattle.lvm_quorum.specs.passed.Survey.{note_sector}
+use Rattle.lvm_quorum.specs.passed.Transfer.{note_sector}
 
 -- the sector of a consistency record without entries
 abbrev pub empty_note_sector : ℕ → Sector

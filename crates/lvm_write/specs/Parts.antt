@@ -6,7 +6,7 @@ use Rattle.lvm_num.specs.Record.{frame, slot_start}
 use Rattle.lvm_disk.specs.Counts.{Counts, Rose, RoseAt, RoseBy}
 use Rattle.lvm_disk.specs.Device.{Device}
 use Rattle.lvm_disk.specs.Paths.{DeviceStep, Path}
-use Rattle.lvm_quorum.specs.passed.Survey.{Plan, RecordWrite, IsOfRecord, Rests, Moved}
+use Rattle.lvm_quorum.specs.passed.Transfer.{Plan, RecordWrite, IsOfRecord, Rests, Moved}
 use Rattle.lvm_quorum.specs.passed.TransferMovesMoved as moved
 use Rattle.lvm_write.specs.declared.write.SlotWrite.{SlotWrite}
 use Rattle.lvm_write.specs.Written.{IsWriting, KeepsShelf, IsDarkened, IsGivenUp}

@@ -8,7 +8,7 @@ use Rattle.lvm_num.specs.Disks.{Disks}
 use Rattle.lvm_num.specs.DescriptorBytes.{descriptor_of}
 use Rattle.lvm_num.specs.StatusBytes.{status_of}
 use Rattle.lvm_num.specs.Record.{Frames}
-use Rattle.lvm_quorum.specs.passed.Survey.{BothBefore, has_records, newest_at, contents_of, RecordWrite, on_disk, IsOfRecord, MayWriteAll, DescriptorsChange, StatusesChange, written, Homes}
+use Rattle.lvm_quorum.specs.passed.Transfer.{BothBefore, has_records, newest_at, contents_of, RecordWrite, on_disk, IsOfRecord, MayWriteAll, DescriptorsChange, StatusesChange, written, Homes}
 use Rattle.lvm_disk.specs.Device.{Media, Image, Device, image_of, MayLeave}
 use Rattle.lvm_write.specs.Homes.{SparesNewest}
 use Rattle.lvm_write.specs.Written.{write_of, IsWriting, KeepsShelf, EndsOn, StandsTold}

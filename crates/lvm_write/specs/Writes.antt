@@ -4,7 +4,7 @@ use Rattle.lvm_num.specs.Buffer.{Buffer}
 use Rattle.lvm_num.specs.Disks.{Disks, has}
 use Rattle.lvm_disk.specs.Device.{Device, IsReady}
 use Rattle.lvm_disk.specs.Paths.{DeviceStep, Path}
-use Rattle.lvm_quorum.specs.passed.Survey.{Plan, RecordWrite, Homes, Flips}
+use Rattle.lvm_quorum.specs.passed.Transfer.{Plan, RecordWrite, Homes, Flips}
 use Rattle.lvm_write.specs.declared.write.Wrote.{Wrote}
 use Rattle.lvm_write.specs.declared.write.Wrote.TheVariants as wrote
 use Rattle.lvm_write.specs.Parts.{Spends}

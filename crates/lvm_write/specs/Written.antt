@@ -8,7 +8,7 @@ use Rattle.lvm_num.specs.Geometry.{data_start}
 use Rattle.lvm_disk.specs.Counts.{Rose}
 use Rattle.lvm_disk.specs.Device.{Image, Range, Device, image_of, MayLeave}
 use Rattle.lvm_disk.specs.Steps.{BothTold}
-use Rattle.lvm_quorum.specs.passed.Survey.{Plan, ChangesBy, RecordWrite, StandsOn, Homes, next_slot, IsUnheard}
+use Rattle.lvm_quorum.specs.passed.Transfer.{Plan, ChangesBy, RecordWrite, StandsOn, Homes, next_slot, IsUnheard}
 
 -- the write of this record to these disks, by the slots that stand next
 abbrev pub write_of : Kind → Framed → Disks → Homes → RecordWrite

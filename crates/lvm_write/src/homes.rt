@@ -2,7 +2,7 @@
 ghost use Rattle.std.specs.Prelude.{◌≡◌, ℕ};
 ghost use Rattle.lvm_num.specs.declared.record.Kind.{Kind};
 ghost use Rattle.lvm_num.specs.Disks.{has};
-ghost use Rattle.lvm_quorum.specs.passed.Survey.{second_slots};
+ghost use Rattle.lvm_quorum.specs.passed.Transfer.{second_slots};
 ghost use Rattle.lvm_write.specs.Homes.{home_by, in_first_slot, SpareNewest};
 ghost use Rattle.lvm_quorum.specs.Rows.{AreRows};
 

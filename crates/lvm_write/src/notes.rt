@@ -2,7 +2,7 @@
 ghost use Rattle.std.specs.Prelude.{IsTrue};
 ghost use Rattle.lvm_num.specs.Disks.{Disks, has};
 ghost use Rattle.lvm_disk.specs.Device.{IsReady};
-ghost use Rattle.lvm_quorum.specs.passed.Survey.{IsOfNote};
+ghost use Rattle.lvm_quorum.specs.passed.Transfer.{IsOfNote};
 ghost use Rattle.lvm_write.specs.Notes.{empty_note_sector, NoteTold};
 ghost use Rattle.lvm_write.specs.Parts.{DoesPart, IfMoved};
 ghost use Rattle.lvm_write.specs.Written.{HasRoom, HaveRoom};

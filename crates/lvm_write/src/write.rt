@@ -3,7 +3,7 @@ ghost use Rattle.std.specs.Prelude.{◌≡◌, ◌≢◌, ◌+◌, ◌<◌, ◌�
 ghost use Rattle.lvm_num.specs.Disks.{has};
 ghost use Rattle.lvm_num.specs.Record.{frame, longest_content, record_sectors, slot_start};
 ghost use Rattle.lvm_disk.specs.Device.{IsReady};
-ghost use Rattle.lvm_quorum.specs.passed.Survey.{IsOfRecord};
+ghost use Rattle.lvm_quorum.specs.passed.Transfer.{IsOfRecord};
 ghost use Rattle.lvm_write.specs.Written.{write_of, HasRoom, HaveRoom};
 ghost use Rattle.lvm_write.specs.Parts.{write_to, PartsStand, IfMoved, WritesPart};
 ghost use Rattle.lvm_write.specs.Writes.{DiskWritesLeave, RecordWritesEnd};

@@ -4,8 +4,8 @@ use Rattle.std.specs.List.{list_any, find, cons_option}
 use Rattle.std.proofs.lemmas.List.{append-nil}
 use Rattle.std.proofs.lemmas.List.Sums.{sum_by-cons, sum_by_push}
 use Rattle.std.proofs.lemmas.Bool.Decides.{nat_tests}
-use Rattle.lvm_history.specs.passed.CheckerNames.{Outcome, Request, Fact, Making, Made, Split, Removing, Removed, Begun, Landed, Taken, Cut, On, IsInList, begun, begun_by, has_id, lands_id, takes_id, need, needed, is_waiting, is_landed, open_count, landed_count, Follows, Ordered}
-use Rattle.lvm_history.proofs.passed.CheckerNames.{IdsFrom, stands-at, stands_begun, IsNumbered, numbered_none, numbered-push, begun-push, any-push, grow}
+use Rattle.lvm_history.specs.passed.Vol.{Outcome, Request, Fact, Making, Made, Split, Removing, Removed, Begun, Landed, Taken, Cut, On, IsInList, begun, begun_by, has_id, lands_id, takes_id, need, needed, is_waiting, is_landed, open_count, landed_count, Follows, Ordered}
+use Rattle.lvm_history.proofs.passed.Vol.{IdsFrom, stands-at, stands_begun, IsNumbered, numbered_none, numbered-push, begun-push, any-push, grow}
 
 count-cons : (p : Request → Bool) (r : Request) (rs : List Request) → count_by p (r ∷ rs) ≡ cond (p r) 1 0 + count_by p rs
 count-cons p r rs = sum_by-cons (λ (x : Request). cond (p x) 1 0) r rs

@@ -8,12 +8,12 @@ use Rattle.std.proofs.Math.Seq.{take-append-add}
 use Rattle.std.proofs.lemmas.Grind.{flat_map-append}
 use Rattle.std.proofs.lemmas.Bool.Decides.{nat_tests}
 use Rattle.std.proofs.lemmas.Bool.{eqb-true}
-use Rattle.lvm_history.specs.passed.CheckerNames.{zero_sector, Outcome, Request, Fact, Making, Made, Split, Removing, Removed, Begun, Landed, Taken, Cut, On, IsInList, begun, begun_by, lands_id, is_got, got_by, held, blocks_of, blocks_begun_with, got_without_bytes, Follows, HasItsData, IsGotOf}
+use Rattle.lvm_history.specs.passed.Vol.{zero_sector, Outcome, Request, Fact, Making, Made, Split, Removing, Removed, Begun, Landed, Taken, Cut, On, IsInList, begun, begun_by, lands_id, is_got, got_by, held, blocks_of, blocks_begun_with, got_without_bytes, Follows, HasItsData, IsGotOf}
 use Rattle.lvm_allowed.specs.declared.row.Ask.{Ask}
 use Rattle.lvm_allowed.specs.declared.row.Row.{Row}
 use Rattle.lvm_allowed.specs.Rows.{no_ask, ask_of, blocks_at, request_from, request_in, fact_of, facts_of}
 use Rattle.lvm_history.specs.Keeping.{ask_at, asks_from, row_of, IsKept}
-use Rattle.lvm_history.proofs.passed.CheckerNames.{IdsFrom, stands-at, stands_begun, IsNumbered, IsAnswer, numbered, begun-push, got_nothing, got_same, got-push}
+use Rattle.lvm_history.proofs.passed.Vol.{IdsFrom, stands-at, stands_begun, IsNumbered, IsAnswer, numbered, begun-push, got_nothing, got_same, got-push}
 
 -- how many blocks the requests have
 abbrev pub counts : List Request → ℕ

@@ -7,9 +7,9 @@ use Rattle.std.proofs.lemmas.List.{append-nil, take_at, drop_at}
 use Rattle.std.proofs.lemmas.List.Sums.{sum_by-cons, sum_by_push}
 use Rattle.std.proofs.lemmas.List.Folds.{find-append}
 use Rattle.std.proofs.lemmas.List.Elements.{filter_map-append}
-use Rattle.lvm_history.specs.passed.CheckerNames.{Outcome, Request, Fact, Begun, Landed, IsInList, begun, begun_by, Log, has_id, asked, no_request, request_of, lands_id, takes_id, is_open, is_answered, is_got, need, needed, spare_entries, blocks_begun, spare_bytes, held, blocks_of, place_after, entries_from, entries_of, Follows, Ordered}
+use Rattle.lvm_history.specs.passed.Vol.{Outcome, Request, Fact, Begun, Landed, IsInList, begun, begun_by, Log, has_id, asked, no_request, request_of, lands_id, takes_id, is_open, is_answered, is_got, need, needed, spare_entries, blocks_begun, spare_bytes, held, blocks_of, place_after, entries_from, entries_of, Follows, Ordered}
 use Rattle.lvm_history.specs.passed.VolEntryEntry as entry
-use Rattle.lvm_history.proofs.passed.CheckerNames.{begun-push, any-push, stands_begun, IsNumbered, numbered, and_left, and_right, open_of, found_of}
+use Rattle.lvm_history.proofs.passed.Vol.{begun-push, any-push, stands_begun, IsNumbered, numbered, and_left, and_right, open_of, found_of}
 use Rattle.lvm_history.proofs.LogLemmas.Keeping.{counts, blocks-back, held_read}
 
 -- a request that was found is found later

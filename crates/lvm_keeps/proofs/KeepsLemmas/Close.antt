@@ -308,7 +308,7 @@ module _ (s : State) (sound : IsSound s) (c : OpenCopy) (is : s.core.copy ≡ So
       dark = sound.dark;
       off = sound.off;
       over = λ e. let was = sound.over e in record { landed = was.landed; copy = tt; flights = was.flights; flying = was.flying };
-      stuck = λ e. let was = sound.stuck e in record { requests = was.requests; copy = refl };
+      stuck = λ e. let was = sound.stuck e in record { requests = was.requests; copy = tt };
       counted = all_weaker (AreCounted s) (AreCounted now) (λ x all. all_weaker (IsCounted s) (IsCounted now) (counted_on s core.history core.requests core.queue None core.pool core.flying core.cache.entries core.last) x.request.targets.items all) core.requests sound.counted;
       answered = all_weaker (IsAnswered s) (IsAnswered now) (λ x why. if_on (IsLandedFor s x) (IsLandedFor now x) (λ how. landed_on s core.history core.requests core.queue None core.pool core.flying core.cache.entries core.last x how) x.landed why) core.requests sound.answered;
       copy = tt;
@@ -334,7 +334,7 @@ by_copy s sound (Some c) is event = keeps s sound c is still (none s.core.power 
     none power.On e = rests (subst (λ m. IfSome m (IsCopy s.core)) is (sound.on e).going.copy) still.over
     none power.Off e = ap hand_of (subst (λ m. IfSome m (λ (k : OpenCopy). (is_running k ≡ false) × (k.step ≡ step.Idle))) is (sound.over (ap is_over e)).copy).1
     none power.Dark e = ap hand_of (subst (λ m. IfSome m (λ (k : OpenCopy). (is_running k ≡ false) × (k.step ≡ step.Idle))) is (sound.over (ap is_over e)).copy).1
-    none power.Stuck e = absurd (let gone : None ≡ Some c = sym (sound.stuck e).copy ∙ is in cc)
+    none power.Stuck e = ap hand_of (subst (λ m. IfSome m (λ (k : OpenCopy). k.step ≡ step.Idle)) is (sound.stuck e).copy)
 
 pub close_keeps : CloseKeeps
 close_keeps s new sound event = subst (λ core. IsSound (state s.device core)) (sym event.is) (by_copy s sound s.core.copy refl (record { ended = event.ended; is = refl }))

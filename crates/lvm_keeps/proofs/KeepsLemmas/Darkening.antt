@@ -30,7 +30,7 @@ use Rattle.lvm_session.specs.Dark.{all_dark, ended_as, ended_copy, hand_of_copy}
 use Rattle.lvm_session.specs.Turns.{SaysTheSame}
 use Rattle.lvm_session.specs.Requests.{IsLanded, IsOpenOne}
 use Rattle.lvm_session.specs.Causes.{AreCounted, HaveSourcesFailed, IsAnswered, IsCausedAmong, IsCounted, IsLandedFor, IsTrueToOrigin, is_held_stale, is_over}
-use Rattle.lvm_session.specs.Sound.{IsAsked, IsFitting, IsSound, IsTold, count_if, has_number, is_dark, is_hand}
+use Rattle.lvm_session.specs.Sound.{IsAsked, IsFitting, IsSound, IsTold, IsUnbegun, count_if, has_number, is_dark, is_hand}
 use Rattle.lvm_keeps.specs.Keeps.{CutKeeps}
 use Rattle.lvm_keeps.proofs.SoundLemmas.Fitting.{still_fits}
 use Rattle.lvm_keeps.proofs.DarkLemmas.Ending.{back_long, copy_over, each_after, failed_before, hands_long, landed_ended, no_copy_hand, none_in_hand, ordered_after, pool_after, requests_after, table_after}
@@ -101,7 +101,7 @@ module _ (s : State) (sound : IsSound s) where
       by power.On e = all_weaker (IsOpenOne core) (λ (o : Open). is_waiting o ≡ false → IsLanded o) (λ o it. it.over) core.requests (sound.on e).going.requests
       by power.Off e = all_weaker IsLanded (λ (o : Open). is_waiting o ≡ false → IsLanded o) (λ o it none. it) core.requests (sound.over (ap is_over e)).landed
       by power.Dark e = all_weaker IsLanded (λ (o : Open). is_waiting o ≡ false → IsLanded o) (λ o it none. it) core.requests (sound.over (ap is_over e)).landed
-      by power.Stuck e = subst (AllByRecursion (λ (o : Open). is_waiting o ≡ false → IsLanded o)) (sym (sound.stuck e).requests) tt
+      by power.Stuck e = all_weaker IsUnbegun (λ (o : Open). is_waiting o ≡ false → IsLanded o) (λ o it. it.over) core.requests (sound.stuck e).requests
 
   module _ (media : Option Media) (freed : List Buffer) (cuts : ℕ)
       (given : (n : ℕ) → count_by (has_number n) freed ≡ count_by (has_number n) s.device.freed + count_by (λ (f : Flight). has_number n f.buf) s.device.flights)

@@ -36,7 +36,7 @@ use Rattle.lvm_keeps.proofs.LeftLemmas.Updates.{open_at, open_most}
 use Rattle.lvm_session.specs.Owners.{AreOwned, IsDataOf, flies, target_flies}
 use Rattle.lvm_session.specs.Requests.{IsLanded, IsOpenOne}
 use Rattle.lvm_session.specs.Causes.{AreCaused, AreCounted, IsAnswered, IsCaused, IsChosenSince, IsCausedAmong, IsCounted, IsLandedFor, fails_on, is_held_stale, is_over}
-use Rattle.lvm_session.specs.Sound.{IsAsked, IsCopy, IsFitting, IsGoing, IsOn, IsSound, IsTold, count_if, is_hand, out_with, pins, with_row}
+use Rattle.lvm_session.specs.Sound.{IsAsked, IsCopy, IsFitting, IsGoing, IsOn, IsSound, IsTold, IsUnbegun, count_if, is_hand, out_with, pins, with_row}
 use Rattle.lvm_keeps.specs.Keeps.{TakeKeeps}
 use Rattle.lvm_keeps.proofs.SoundLemmas.Fitting.{still_fits}
 use Rattle.lvm_keeps.proofs.Lists.{all_removed, any_removed, count_removed, get_removed, length_removed}
@@ -85,7 +85,7 @@ module _ (s : State) (sound : IsSound s) (place : ℕ) (o : Open) (there : slice
       by power.On e = (all_at (IsOpenOne core) core.requests place o (sound.on e).going.requests there).over over
       by power.Off e = all_at IsLanded core.requests place o (sound.over (ap is_over e)).landed there
       by power.Dark e = all_at IsLanded core.requests place o (sound.over (ap is_over e)).landed there
-      by power.Stuck e = absurd (let none : slice_get [] place ≡ Some o = sym (ap (λ (os : List Open). slice_get os place) (sound.stuck e).requests) ∙ there in cc none)
+      by power.Stuck e = (all_at IsUnbegun core.requests place o (sound.stuck e).requests there).over over
 
   no_hand : (n : ℕ) → is_hand n o.got ≡ false
   no_hand n = ap (is_hand n) landed.hand
@@ -232,7 +232,7 @@ module _ (s : State) (sound : IsSound s) (place : ℕ) (o : Open) (there : slice
     dark = sound.dark;
     off = sound.off;
     over = λ e. let was = sound.over e in record { landed = all_removed IsLanded core.requests place was.landed; copy = was.copy; flights = was.flights; flying = was.flying };
-    stuck = λ e. absurd (let none : slice_get [] place ≡ Some o = sym (ap (λ (os : List Open). slice_get os place) (sound.stuck e).requests) ∙ there in cc none);
+    stuck = λ e. let was = sound.stuck e in record { requests = all_removed IsUnbegun core.requests place was.requests; copy = was.copy };
     counted = all_weaker (AreCounted s) (AreCounted now) counted left (all_removed (AreCounted s) core.requests place sound.counted);
     answered = all_weaker (IsAnswered s) (IsAnswered now) answered left (all_removed (IsAnswered s) core.requests place sound.answered);
     copy = if_on (λ (c : OpenCopy). IsCausedAmong s (copies_in core.descriptor c.lv c.lp) c) (λ (c : OpenCopy). IsCausedAmong now (copies_in core.descriptor c.lv c.lp) c) (λ c. copy_on s (with_fact core.history fact) left core.queue core.copy core.pool core.flying core.cache.entries core.last (copies_in core.descriptor c.lv c.lp) c) core.copy sound.copy;

@@ -12,9 +12,9 @@ use Rattle.lvm_num.specs.declared.descriptor.Descriptor.{Descriptor}
 use Rattle.lvm_num.specs.Descriptor.{partitions_used}
 use Rattle.lvm_num.specs.Disks.{Disks}
 use Rattle.lvm_map.specs.FirstFit.{is_among, may_take, choices, Asked, kept_next, others_in, next_fit, IsFirstFit}
-use Rattle.lvm_map.specs.Room.{is_open, room_of, PartitionIsTaken, TakesFirstFree, TakesNext}
+use Rattle.lvm_map.specs.FreePartitions.{is_open, free_partitions, PartitionIsTaken, TakesFirstFree, TakesNext}
 use Rattle.lvm_map.proofs.FirstFitLemmas.FreeLists.{members-known}
-use Rattle.lvm_map.proofs.RoomLemmas.Choices.{nothing_taken, first_taken, taken_from}
+use Rattle.lvm_map.proofs.FreePartitionsLemmas.Choices.{nothing_taken, first_taken, taken_from}
 
 -- ---- places of a list
 
@@ -51,28 +51,28 @@ known used front old k pp all is =
 
 module _ (d : Descriptor) (usable : Disks) (asked : Asked) (front : List Pp) (old new : List (List Pp)) where
   pub next_is_some : (pp : Pp) → AllPairs (λ (a b : PvRow). a.disk ≢ b.disk) d.pvs → All (λ (p : Pp). IsTrue (is_among (partitions_used d) p)) asked.old
-      → old ≡ room_of d usable (partitions_used d ++ front) → TakesNext asked front old new (Some pp)
-      → (next_fit d usable asked front ≡ Some pp) × (new ≡ room_of d usable (partitions_used d ++ (front ++ pp ∷ [])))
+      → old ≡ free_partitions d usable (partitions_used d ++ front) → TakesNext asked front old new (Some pp)
+      → (next_fit d usable asked front ≡ Some pp) × (new ≡ free_partitions d usable (partitions_used d ++ (front ++ pp ∷ [])))
   next_is_some pp apart all room takes = by_turn (nat_lt (length front % asked.copies) asked.kept) takes
     where
       by_turn : (b : Bool) → MatchBool b ((Some pp ≡ kept_next asked front) × (new ≡ old)) (TakesFirstFree (others_in asked front) old new (Some pp))
           → (cond b (kept_next asked front) (slice_get (choices d usable (partitions_used d ++ front) (others_in asked front)) 0) ≡ Some pp)
-          × (new ≡ room_of d usable (partitions_used d ++ (front ++ pp ∷ [])))
+          × (new ≡ free_partitions d usable (partitions_used d ++ (front ++ pp ∷ [])))
       by_turn true kept = (
         sym kept.0,
         kept.1
             ∙ room
             ∙ sym (members-known (partitions_used d ++ front) pp (filter (may_take usable []) d.pvs) (known (partitions_used d) front asked.old _ pp all kept.0))
-            ∙ ap (room_of d usable) (append_assoc (partitions_used d) front (pp ∷ [])),
+            ∙ ap (free_partitions d usable) (append_assoc (partitions_used d) front (pp ∷ [])),
       )
       by_turn false taken =
           let from = subst (λ (lists : List (List Pp)). PartitionIsTaken (others_in asked front) lists new pp) room taken in (
             first_taken usable (partitions_used d ++ front) (others_in asked front) d.pvs new pp from,
             taken_from usable (partitions_used d ++ front) (others_in asked front) d.pvs new pp apart from
-                ∙ ap (room_of d usable) (append_assoc (partitions_used d) front (pp ∷ [])),
+                ∙ ap (free_partitions d usable) (append_assoc (partitions_used d) front (pp ∷ [])),
           )
 
-  pub next_is_none : old ≡ room_of d usable (partitions_used d ++ front) → TakesNext asked front old new None → next_fit d usable asked front ≡ None
+  pub next_is_none : old ≡ free_partitions d usable (partitions_used d ++ front) → TakesNext asked front old new None → next_fit d usable asked front ≡ None
   next_is_none room takes = by_turn (nat_lt (length front % asked.copies) asked.kept) takes
     where
       by_turn : (b : Bool) → MatchBool b ((None ≡ kept_next asked front) × (new ≡ old)) (TakesFirstFree (others_in asked front) old new None)

@@ -15,7 +15,7 @@ use Rattle.lvm_num.specs.Marks.{spot}
 use Rattle.lvm_num.proofs.Pairs.{All-left, All-right}
 use Rattle.lvm_num.proofs.MarksLemmas.Spots.{bounded}
 use Rattle.lvm_map.specs.FirstFit.{is_among, partitions_of, free_of}
-use Rattle.lvm_map.specs.Room.{IsBounded}
+use Rattle.lvm_map.specs.FreePartitions.{IsBounded}
 use Rattle.lvm_map.proofs.FirstFitLemmas.FreeLists.{is_pp-same, is_pp-apart, filter_same, partitions-at, partitions-size}
 
 -- the partitions that volumes use are of disks of the shelf

@@ -7,7 +7,7 @@ use Rattle.lvm_num.specs.declared.status.Status.{Status}
 use Rattle.lvm_num.specs.Record.{Stamped}
 use Rattle.lvm_num.specs.Votes.{all_disks}
 use Rattle.lvm_num.proofs.RecordLemmas.Newest.{is_one}
-use Rattle.lvm_quorum.specs.passed.Survey.{Contents, if_passes, is_of, is_status_of, descriptor_among}
+use Rattle.lvm_quorum.specs.passed.Transfer.{Contents, if_passes, is_of, is_status_of, descriptor_among}
 use Rattle.lvm_quorum.specs.declared.row.Survey.{Survey}
 use Rattle.lvm_quorum.specs.Surveyed.{surveyed}
 use Rattle.lvm_quorum.specs.Choosing.{IsGreatestEpoch}

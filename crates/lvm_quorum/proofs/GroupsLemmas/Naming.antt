@@ -7,7 +7,7 @@ use Rattle.lvm_num.specs.Record.{Stamped}
 use Rattle.lvm_quorum.specs.declared.row.SurveyRow.{SurveyRow}
 use Rattle.lvm_quorum.specs.declared.row.Survey.{Survey}
 use Rattle.lvm_quorum.specs.Surveyed.{surveyed}
-use Rattle.lvm_quorum.specs.passed.Survey.{under}
+use Rattle.lvm_quorum.specs.Reading.{under}
 use Rattle.lvm_quorum.specs.Choosing.{HasName}
 use Rattle.lvm_quorum.specs.Groups.{IsNamedBy}
 use Rattle.lvm_quorum.proofs.SurveyedLemmas.SurveyRows.{descriptor_shown, descriptor_past}

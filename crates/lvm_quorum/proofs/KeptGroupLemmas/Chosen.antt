@@ -7,7 +7,8 @@ use Rattle.lvm_num.specs.Descriptor.{IsValid}
 use Rattle.lvm_num.specs.Disks.{Disks}
 use Rattle.lvm_num.specs.Record.{Stamped, newest_below}
 use Rattle.lvm_num.specs.Votes.{all_disks, votes_in, is_enough_to_read}
-use Rattle.lvm_quorum.specs.passed.Survey.{Contents, if_passes, passes, is_status_of, descriptor_among, is_voter, has_quorum, status_among, under}
+use Rattle.lvm_quorum.specs.passed.Transfer.{Contents, if_passes, passes, is_status_of, descriptor_among, is_voter, has_quorum, status_among}
+use Rattle.lvm_quorum.specs.Reading.{under}
 use Rattle.lvm_quorum.specs.declared.row.SurveyRow.{SurveyRow}
 use Rattle.lvm_quorum.specs.declared.row.Survey.{Survey}
 use Rattle.lvm_quorum.specs.Surveyed.{surveyed, IsSurveyValid}

@@ -9,7 +9,8 @@ use Rattle.lvm_num.specs.declared.descriptor.Descriptor.{Descriptor}
 use Rattle.lvm_num.specs.Geometry.{sectors_needed}
 use Rattle.lvm_num.specs.Record.{Stamped}
 use Rattle.lvm_num.specs.Votes.{all_disks}
-use Rattle.lvm_quorum.specs.passed.Survey.{Contents, passes, is_of, has_room, members_in, descriptor_among, is_voter, under}
+use Rattle.lvm_quorum.specs.passed.Transfer.{Contents, passes, is_of, has_room, members_in, descriptor_among, is_voter}
+use Rattle.lvm_quorum.specs.Reading.{under}
 use Rattle.lvm_quorum.specs.declared.row.SurveyRow.{SurveyRow}
 use Rattle.lvm_quorum.specs.declared.row.Survey.{Survey}
 use Rattle.lvm_quorum.specs.Surveyed.{surveyed}

@@ -1,7 +1,7 @@
 -- The row of a disk, as its sectors say it.
 use Rattle.std.proofs.Common.{◌≡◌, ◌⊎◌, inl, inr, ◌<◌, ◌≤◌, ◌++◌, [], ◌∷◌, ℕ, zero, suc, List, Bool, true, false, Some, None, length, slice_get, slice_index_or, refl, sym, ◌∙◌, ap, subst, arith}
 use Rattle.std.specs.Prelude.{◌&&◌, nat_le, nat_lt, if◌then◌else◌, option_map}
-use Rattle.lvm_quorum.specs.passed.Area.{noted_of, held, newest_on, slot_of, Image, Media, Device, image_of, has_records, descriptor_on, status_on, note_on}
+use Rattle.lvm_quorum.specs.passed.Transfer.{noted_of, held, newest_on, slot_of, Image, Media, Device, image_of, has_records, descriptor_on, status_on, note_on}
 use Rattle.std.proofs.lemmas.Bool.Decides.{nat_tests}
 use Rattle.lvm_num.specs.declared.record.Kind.TheVariants as kind
 use Rattle.lvm_num.specs.DescriptorBytes.{descriptor_of}

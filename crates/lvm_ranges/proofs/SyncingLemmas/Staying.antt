@@ -178,8 +178,8 @@ none_wait [] all = refl
 none_wait (o ∷ os) all = ap (λ b. b || list_any is_waiting os) all.0.landed ∙ none_wait os all.1
 
 -- a session of which a copy runs goes on
-goes_on : (s : State) → IsSound s → Runs s.core → s.core.power ≡ power.On
-goes_on s sound runs = by s.core.power refl
+goes_on : (s : State) → IsSound s → (s.core.power ≡ power.Stuck → ⊥) → Runs s.core → s.core.power ≡ power.On
+goes_on s sound unstuck runs = by s.core.power refl
   where
     none_open : s.core.copy ≡ None → ⊥
     none_open is = let e : copy.Closed ≡ copy.Running runs.0 = sym (ap (λ m. option_map_or (state_of_copy s.core) m copy.Closed) is) ∙ runs.1 in cc e
@@ -198,7 +198,7 @@ goes_on s sound runs = by s.core.power refl
     by power.On is = is
     by power.Off is = let over = sound.over (ap is_over is) in absurd (of s.core.copy refl over.landed over.copy)
     by power.Dark is = let over = sound.over (ap is_over is) in absurd (of s.core.copy refl over.landed over.copy)
-    by power.Stuck is = absurd (none_open (sound.stuck is).copy)
+    by power.Stuck is = absurd (unstuck is)
 
 -- other partitions than that of the copy aren't open
 shut_beside : (core : Core) (begun : OpenCopy) → IsOpenStill begun core → (q : Pp) → is_pp q begun.pp ≡ false → is_open_at core q ≡ false
@@ -215,7 +215,7 @@ bring_stays first opened ended made begun so_far is_open (Then {m} path turn any
     let before = bring_stays first opened m made begun so_far is_open path in
     let still = before.1 turn.0 in
     let after = turn_stays first m ended made (λ q. is_pp q begun.pp) before.0 turn.1 (λ q other. shut_beside m.core begun still q other) (unmoved_beside m.core begun still) in
-    (after, λ runs. turn_open begun m ended before.0.sound still turn.0 turn.1.0 turn.1.1 (goes_on ended after.sound runs))
+    (after, λ runs. turn_open begun m ended before.0.sound still turn.0 turn.1.0 turn.1.1 (goes_on ended after.sound after.unstuck runs))
 
 -- ---- it is made fresh
 

@@ -2,7 +2,7 @@
 use Rattle.std.proofs.Common.{◌≡◌, ℕ, Bool, true, false, ◌&&◌, not, length, refl, sym, ap, ◌∙◌, arith}
 use Rattle.std.specs.Prelude.{◌==◌}
 use Rattle.std.proofs.lemmas.List.{length-map}
-use Rattle.lvm_status.specs.passed.StaleNames.{Descriptor, StatusRow, Status, has}
+use Rattle.lvm_status.specs.passed.Num.{Descriptor, StatusRow, Status, has}
 use Rattle.lvm_status.specs.Table.{SameMembers}
 use Rattle.lvm_status.proofs.MarkingLemmas.{has_row-same}
 use Rattle.lvm_status.specs.declared.writes.Writes.{Writes}

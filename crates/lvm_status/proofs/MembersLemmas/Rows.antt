@@ -4,9 +4,9 @@ use Rattle.std.specs.Prelude.{◌==◌}
 use Rattle.std.specs.List.{list_any, list_all}
 use Rattle.std.proofs.lemmas.Bool.{eq-eqb, eqb-true, false≢true}
 use Rattle.std.proofs.lemmas.List.Folds.{Any-from_list_any, list_any_at, list_all_at}
-use Rattle.lvm_status.specs.passed.StaleNames.{PvRow, Descriptor, StatusRow, Status, is_member}
+use Rattle.lvm_status.specs.passed.Num.{PvRow, Descriptor, StatusRow, Status, is_member}
 use Rattle.lvm_status.specs.Table.{has_row}
-use Rattle.lvm_status.proofs.passed.StaleNames.{same_answer}
+use Rattle.lvm_status.proofs.passed.Num.{same_answer}
 use Rattle.lvm_status.specs.Members.{HasItsRows, all_rows, all_members}
 use Rattle.lvm_status.proofs.Disks.{bool_tells}
 use Rattle.lvm_status.proofs.RunsLemmas.Sound.{and_left, and_right, both}

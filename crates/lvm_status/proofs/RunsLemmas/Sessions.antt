@@ -3,7 +3,7 @@ use Rattle.std.proofs.Common.{◌≡◌, ◌⊎◌, inl, inr, ℕ, ◌+◌, ◌<
 use Rattle.std.specs.Prelude.{◌==◌, if◌then◌else◌, nat_lt, unwrap_or}
 use Rattle.std.specs.List.{list_any}
 use Rattle.std.proofs.lemmas.Bool.{eq-eqb, eqb-true, false≢true, cases_lt, cases_eq, lt-ltb, or_right, or_parts, false_from_ne_true}
-use Rattle.lvm_status.specs.passed.StaleNames.{Pp, Stamp, Status, is_member, is_pp, stamp_lt, calls_stale, calls_missing}
+use Rattle.lvm_status.specs.passed.Num.{Pp, Stamp, Status, is_member, is_pp, stamp_lt, calls_stale, calls_missing}
 use Rattle.lvm_status.specs.declared.change.Change.{Change}
 use Rattle.lvm_status.specs.declared.change.Change.TheVariants as change
 use Rattle.lvm_status.specs.Update.{Updates, no_disks, is_held, is_owed, is_settled_stale}

@@ -5,7 +5,7 @@ use Rattle.std.specs.List.{list_any}
 use Rattle.std.proofs.lemmas.Bool.{eq-eqb, eqb-true, false≢true, false_from_ne_true, or_from}
 use Rattle.std.proofs.lemmas.List.Folds.{Any-from_list_any, list_any_at}
 use Rattle.std.proofs.lemmas.List.Sums.{sum_by-cons}
-use Rattle.lvm_status.specs.passed.StaleNames.{Stamp, PvRow, Descriptor, Status, is_member, Disks, calls_missing, votes_in, total_votes, is_enough_to_write}
+use Rattle.lvm_status.specs.passed.Num.{Stamp, PvRow, Descriptor, Status, is_member, Disks, calls_missing, votes_in, total_votes, is_enough_to_write}
 use Rattle.lvm_status.specs.Table.{SameMissing}
 use Rattle.lvm_status.specs.declared.change.Change.{Change}
 use Rattle.lvm_status.specs.declared.change.Change.TheVariants as change
@@ -13,8 +13,8 @@ use Rattle.lvm_status.specs.Update.{Updates, no_disks, with_disk, without_disk, 
 use Rattle.lvm_status.specs.Calls.{Changes, WantsAtEnd, given_up, closed, comes_held, with_wanted, with_update, with_start, with_end, with_commit}
 use Rattle.lvm_status.specs.Runs.{Want, Start, NextWrite, Ended, SetStamp, IsSoundStatus, FirstIsSound, StepsStaySound, RunsStaySound}
 pub use Rattle.std.proofs.lemmas.Bool.{and_from as both, not-true as not_false, or_cases as or_tells, or_left}
-pub use Rattle.lvm_status.proofs.passed.StaleNames.{first_holds as and_left, second_holds as and_right}
-use Rattle.lvm_status.proofs.passed.StaleNames.{first_with_second, none_below}
+pub use Rattle.lvm_status.proofs.passed.Num.{first_holds as and_left, second_holds as and_right}
+use Rattle.lvm_status.proofs.passed.Num.{first_with_second, none_below}
 
 -- ---- tests
 

@@ -27,7 +27,7 @@ use lvm_ranges::below::whole_groups_begin;
 use lvm_ranges::{SyncFault, sync_volume};
 use lvm_rec::Homes;
 use lvm_session::{AskFault, CopyFault, CopyState, Power, Taken, Turned};
-use lvm_session_start::{Room, take_parts};
+use lvm_session_start::{SessionRoom, take_parts};
 use lvm_transfer::Patience;
 use std::process::Abort;
 
@@ -226,12 +226,12 @@ fn shelf(rt: &(impl Abort + AllocGlobal), mib: u16, plan: &[Planned]) -> MemShel
     .expect(rt, "memory")
 }
 
-fn room(rt: &impl Abort, setup: &Setup) -> Room
+fn room(rt: &impl Abort, setup: &Setup) -> SessionRoom
     ensures { IsSessionRoom result }
 {
     assert!(rt; setup.table <= 1024);
     assert!(rt; 1 <= setup.pool && setup.pool <= 1024);
-    Room {
+    SessionRoom {
         table: setup.table,
         pool: setup.pool,
     }

@@ -33,7 +33,7 @@ use Rattle.lvm_commit.specs.LawsOfVolumes.{IsOneFoundOn}
 use Rattle.lvm_commit.specs.Settling.{NoneIsLeft}
 use Rattle.lvm_session.specs.State.{Core, State, state, is_there}
 use Rattle.lvm_session_start.specs.declared.parts.Parts.{Parts}
-use Rattle.lvm_session_start.specs.declared.parts.Room.{Room as SessionRoom}
+use Rattle.lvm_session_start.specs.declared.parts.SessionRoom.{SessionRoom}
 use Rattle.lvm_session_start.specs.Beginning.{MayBeginSession, first_core}
 use Rattle.lvm_session_start.specs.Parts.{IsReserved, IsSessionRoom}
 use Rattle.lvm_keeps.specs.Begins.{SessionBegins as Beginning, HasFirstStatus, IsUnused}
@@ -42,7 +42,7 @@ use Rattle.lvm_keeps.proofs.SoundLemmas.Telling.{open_still}
 use Rattle.lvm_session.specs.Placed.{ArePlaced}
 use Rattle.lvm_session.specs.Causes.{faults_at_first}
 use Rattle.lvm_session.specs.Sound.{IsFitting, IsSound, is_dark}
-use Rattle.lvm_settled.specs.passed.Names.{Room, NotesAreHome, HaveAllLanded, IsFittingAtRest, IsRoom, room_of}
+use Rattle.lvm_settled.specs.passed.Names.{Room, NotesAreHome, HaveAllLanded, IsFittingAtRest, IsRoom, session_room_of}
 use Rattle.lvm_settled.proofs.passed.Names.{empty_names_none}
 use Rattle.lvm_mwc.specs.Cache.{is_named as is_named_by}
 use Rattle.lvm_kept.proofs.CommittedLemmas.Finding.{images_within}
@@ -70,7 +70,7 @@ its_own d t room p its =
     subst (λ (x : Descriptor). IsReserved x p.table p.room p) (sym its.descriptor)
     (subst (λ (x : Status). IsReserved d x p.room p) (sym its.table) (subst (λ (x : SessionRoom). IsReserved d t x p) (sym its.room_is) its))
 
-in_room : (room : Room) → IsRoom room → IsSessionRoom (room_of room)
+in_room : (room : Room) → IsRoom room → IsSessionRoom (session_room_of room)
 in_room room is = record { requests = is.requests; a_buffer = is.a_buffer; buffers = is.buffers }
 
 -- the stamp of the last record that was written
@@ -276,7 +276,7 @@ varied_on_serves m was name moment room old s media on it leads driven only even
     let b : Begins was moment s = record {
       parts = on.first.parts;
       homes = s.core.homes;
-      reserved = its_own on.written.group (status_after on.written.next on.written.clean) (room_of room) on.first.parts on.first.reserved;
+      reserved = its_own on.written.group (status_after on.written.next on.written.clean) (session_room_of room) on.first.parts on.first.reserved;
       fits = fits;
       seq = last_seq on.written.clean;
       low = last_seq_low on.written.clean;
@@ -293,7 +293,7 @@ made_serves m was w room old s media made it leads driven only power past begins
     let b : Begins (given_up was w.disks) w.moment s = record {
       parts = made.reserved;
       homes = made.next;
-      reserved = its_own (new_group old.sizes w) (new_status w) (room_of room) made.reserved made.parts;
+      reserved = its_own (new_group old.sizes w) (new_status w) (session_room_of room) made.reserved made.parts;
       fits = fits;
       seq = 2;
       low = omega arith;

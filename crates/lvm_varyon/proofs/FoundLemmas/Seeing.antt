@@ -22,7 +22,7 @@ use Rattle.lvm_write.proofs.WrittenLemmas.Writing.{if_told}
 use Rattle.lvm_quorum.specs.declared.row.SurveyRow.{SurveyRow}
 use Rattle.lvm_quorum.specs.declared.row.Survey.{Survey}
 use Rattle.lvm_quorum.specs.Surveyed.{surveyed, IsEmpty, IsRead}
-use Rattle.lvm_quorum.specs.passed.Survey.{under}
+use Rattle.lvm_quorum.specs.Reading.{under}
 use Rattle.lvm_varyon.specs.Found.{HaveAnswered, records_on, Found}
 use Rattle.lvm_varyon.specs.Parts.{IsSurveyOf}
 

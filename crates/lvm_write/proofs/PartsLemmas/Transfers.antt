@@ -5,7 +5,7 @@ use Rattle.lvm_num.specs.Disks.{Disks}
 use Rattle.lvm_disk.specs.Counts.{Counts, Rose, RoseAt, RoseBy}
 use Rattle.lvm_disk.specs.Device.{Device, IsReady, image_of}
 use Rattle.lvm_disk.specs.Paths.{Here}
-use Rattle.lvm_quorum.specs.passed.Survey.{Plan, ChangesBy, RecordWrite, IsOfRecord, Moved}
+use Rattle.lvm_quorum.specs.passed.Transfer.{Plan, ChangesBy, RecordWrite, IsOfRecord, Moved}
 use Rattle.lvm_quorum.specs.passed.TransferMovesMoved as moved
 use Rattle.lvm_quorum.proofs.passed.Names.{unheard_then}
 use Rattle.lvm_write.specs.Written.{HasRoom, KeepsShelf, FreesAtMost, IsDarkened, IsGivenUp}

@@ -1,2 +1,2 @@
 -- Passed on from the crates below.
-pub use Rattle.lvm_quorum.specs.passed.Survey.{Moved, TransferGives, flight_of}
+pub use Rattle.lvm_quorum.specs.passed.Transfer.{Moved, TransferGives, flight_of}

@@ -1,6 +1,6 @@
 use Rattle.std.proofs.Common.{◌≡◌, drop}
 use Rattle.std.specs.List.{list_any}
-use Rattle.lvm_due.specs.passed.FactsNames.{core_of, is_usable}
+use Rattle.lvm_due.specs.passed.Session.{core_of, is_usable}
 use Rattle.lvm_due.proofs.facts.any_is_usable.Given as goal
 
 abbrev pub invariant-loop-pp : goal.invariant-loop-pp

@@ -2,7 +2,7 @@ use Rattle.std.proofs.Common.{sym, ◌∙◌, ap}
 use Rattle.lvm_path.specs.declared.facts.Facts.{Facts}
 use Rattle.lvm_path.specs.declared.request.Phase.TheVariants as phase
 use Rattle.lvm_path.specs.Next.{next_in}
-use Rattle.lvm_due.specs.passed.FactsNames.{core_of, facts_of}
+use Rattle.lvm_due.specs.passed.Session.{core_of, facts_of}
 use Rattle.lvm_due.proofs.NextLemmas.{data_same}
 use Rattle.lvm_due.proofs.facts.data_facts.Goals as goal
 

@@ -3,7 +3,7 @@ use Rattle.std.specs.List.{list_any}
 use Rattle.lvm_path.specs.declared.facts.Facts.{Facts}
 use Rattle.lvm_path.specs.declared.request.Phase.TheVariants as phase
 use Rattle.lvm_path.specs.Next.{next_in}
-use Rattle.lvm_due.specs.passed.FactsNames.{core_of, copies_for, facts_of, is_held_back, is_pending, is_usable}
+use Rattle.lvm_due.specs.passed.Session.{core_of, copies_for, facts_of, is_held_back, is_pending, is_usable}
 use Rattle.lvm_due.proofs.NextLemmas.{by_phase, held_same}
 use Rattle.lvm_due.proofs.facts.read_facts.Goals as goal
 

@@ -1,6 +1,6 @@
 use Rattle.std.proofs.Common.{Some, None, if◌then◌else◌, sym, ◌∙◌, ap}
 use Rattle.lvm_due.specs.passed.SessionEventEvent as event
-use Rattle.lvm_due.specs.passed.FactsNames.{Open, is_admit, core_of, facts_of, next_for}
+use Rattle.lvm_due.specs.passed.Session.{Open, is_admit, core_of, facts_of, next_for}
 use Rattle.lvm_due.proofs.NotNextLemmas.{admits_not}
 use Rattle.lvm_due.proofs.AtPlaces.{read_same}
 use Rattle.lvm_due.proofs.firsts.admission_at.Goals as goal

@@ -1,7 +1,7 @@
 use Rattle.std.proofs.Common.{sym, ◌∙◌, ap}
 use Rattle.std.specs.Option.{option_map}
 use Rattle.lvm_due.specs.passed.SessionEventEvent as event
-use Rattle.lvm_due.specs.passed.FactsNames.{Open, target_next, core_of, facts_of, next_for}
+use Rattle.lvm_due.specs.passed.Session.{Open, target_next, core_of, facts_of, next_for}
 use Rattle.lvm_due.proofs.NotNextLemmas.{starts_not}
 use Rattle.lvm_due.proofs.AtPlaces.{read_same}
 use Rattle.lvm_due.proofs.firsts.data_at.Goals as goal

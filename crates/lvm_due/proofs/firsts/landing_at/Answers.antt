@@ -1,7 +1,7 @@
 use Rattle.std.proofs.Common.{◌≡◌, ℕ, Bool, true, false, Some, None, slice_get, refl, sym, ◌∙◌, ap}
 use Rattle.std.specs.Option.{option_map}
 use Rattle.lvm_due.specs.passed.SessionEventEvent as event
-use Rattle.lvm_due.specs.passed.FactsNames.{Open, outcome_next, Core, IsGoing, core_of, facts_of, is_waiting, next_for}
+use Rattle.lvm_due.specs.passed.Session.{Open, outcome_next, Core, IsGoing, core_of, facts_of, is_waiting, next_for}
 use Rattle.lvm_due.specs.Might.{might_land, shows_usable}
 use Rattle.lvm_due.proofs.NotNextLemmas.{lands_not}
 use Rattle.lvm_due.proofs.Nexts.{landed_waits, one}

@@ -1,6 +1,6 @@
 use Rattle.std.proofs.Common.{◌∙◌, refl}
-use Rattle.lvm_due.proofs.passed.FactsNames.{blocked_tells}
-use Rattle.lvm_due.specs.passed.FactsNames.{core_of, held_of, place_of}
+use Rattle.lvm_due.proofs.passed.Session.{blocked_tells}
+use Rattle.lvm_due.specs.passed.Session.{core_of, held_of, place_of}
 use Rattle.lvm_due.proofs.held.is_held_back.Goals as goal
 
 pub blocked_by-requires : goal.blocked_by-requires

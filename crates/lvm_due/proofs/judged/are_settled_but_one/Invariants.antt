@@ -1,7 +1,7 @@
 use Rattle.std.proofs.Common.{◌≡◌, drop, if◌then◌else◌}
 use Rattle.std.specs.List.{list_all}
 use Rattle.lvm_path.specs.declared.target.Target.{Target}
-use Rattle.lvm_due.specs.passed.FactsNames.{core_of, is_settled, all_but_sure}
+use Rattle.lvm_due.specs.passed.Session.{core_of, is_settled, all_but_sure}
 use Rattle.lvm_due.proofs.judged.are_settled_but_one.Given as goal
 
 abbrev pub invariant-loop-target : goal.invariant-loop-target

@@ -1,6 +1,6 @@
 use Rattle.std.proofs.Common.{◌≡◌, ◌&&◌, false, take}
 use Rattle.std.specs.List.{list_any}
-use Rattle.lvm_due.specs.passed.FactsNames.{Open, core_of, is_past_held, is_beside_copy, is_waiting}
+use Rattle.lvm_due.specs.passed.Session.{Open, core_of, is_past_held, is_beside_copy, is_waiting}
 use Rattle.lvm_due.proofs.moved.is_under_way.Given as goal
 
 abbrev pub invariant-loop-open : goal.invariant-loop-open

@@ -1,5 +1,5 @@
 use Rattle.std.proofs.Common.{◌∙◌, sym, ap}
-use Rattle.lvm_due.specs.passed.FactsNames.{Open, core_of, next_for}
+use Rattle.lvm_due.specs.passed.Session.{Open, core_of, next_for}
 use Rattle.lvm_due.proofs.Nexts.{queued}
 use Rattle.lvm_due.proofs.AtPlaces.{read_same, stands}
 use Rattle.lvm_due.proofs.next.next_at.Goals as goal

@@ -1,5 +1,5 @@
 use Rattle.std.proofs.Common.{sym}
-use Rattle.lvm_due.specs.passed.FactsNames.{core_of, note_at}
+use Rattle.lvm_due.specs.passed.Session.{core_of, note_at}
 use Rattle.lvm_due.proofs.SpansLemmas.{ends_here, goes_past, none_due}
 use Rattle.lvm_due.proofs.notes.first_note.Goals as goal
 

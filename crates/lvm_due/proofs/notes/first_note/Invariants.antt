@@ -1,5 +1,5 @@
 use Rattle.std.proofs.Common.{◌-◌}
-use Rattle.lvm_due.specs.passed.FactsNames.{core_of, note_at}
+use Rattle.lvm_due.specs.passed.Session.{core_of, note_at}
 use Rattle.lvm_due.specs.Spans.{Spans}
 use Rattle.lvm_due.proofs.notes.first_note.Given as goal
 

@@ -1,4 +1,4 @@
-use Rattle.lvm_due.specs.passed.FactsNames.{core_of}
+use Rattle.lvm_due.specs.passed.Session.{core_of}
 use Rattle.lvm_due.proofs.Nexts.{one}
 use Rattle.lvm_due.proofs.AtPlaces.{stands}
 use Rattle.lvm_due.proofs.notes.note_at.Goals as goal

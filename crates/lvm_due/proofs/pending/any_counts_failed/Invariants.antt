@@ -1,6 +1,6 @@
 use Rattle.std.proofs.Common.{◌≡◌, drop}
 use Rattle.std.specs.List.{list_any}
-use Rattle.lvm_due.specs.passed.FactsNames.{core_of, counts_failed}
+use Rattle.lvm_due.specs.passed.Session.{core_of, counts_failed}
 use Rattle.lvm_due.proofs.pending.any_counts_failed.Given as goal
 
 abbrev pub invariant-loop-target : goal.invariant-loop-target

@@ -1,5 +1,5 @@
 use Rattle.std.proofs.Common.{sym}
-use Rattle.lvm_due.specs.passed.FactsNames.{core_of}
+use Rattle.lvm_due.specs.passed.Session.{core_of}
 use Rattle.lvm_due.proofs.JudgingLemmas.{none_beside}
 use Rattle.lvm_due.proofs.pending.any_fails_beside.Goals as goal
 

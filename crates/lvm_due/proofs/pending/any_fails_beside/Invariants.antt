@@ -1,6 +1,6 @@
 use Rattle.std.proofs.Common.{◌≡◌, ◌&&◌, ◌==◌, not, false, take}
 use Rattle.std.specs.List.{list_any}
-use Rattle.lvm_due.specs.passed.FactsNames.{Open, core_of, is_beside, is_failing}
+use Rattle.lvm_due.specs.passed.Session.{Open, core_of, is_beside, is_failing}
 use Rattle.lvm_due.proofs.pending.any_fails_beside.Given as goal
 
 abbrev pub invariant-loop-other : goal.invariant-loop-other

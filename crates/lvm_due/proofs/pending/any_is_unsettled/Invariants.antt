@@ -1,7 +1,7 @@
 use Rattle.std.proofs.Common.{◌≡◌, ◌&&◌, not, drop}
 use Rattle.std.specs.List.{list_any}
 use Rattle.lvm_num.specs.declared.place.Pp.{Pp}
-use Rattle.lvm_due.specs.passed.FactsNames.{core_of, is_wanted_stale, is_settled}
+use Rattle.lvm_due.specs.passed.Session.{core_of, is_wanted_stale, is_settled}
 use Rattle.lvm_due.proofs.pending.any_is_unsettled.Given as goal
 
 abbrev pub invariant-loop-pp : goal.invariant-loop-pp

@@ -5,9 +5,9 @@ use Rattle.lvm_num.specs.declared.place.Pp.{Pp}
 use Rattle.lvm_num.specs.Descriptor.{partitions_used}
 use Rattle.lvm_num.specs.Disks.{has}
 use Rattle.lvm_map.specs.FirstFit.{Asked, IsFirstFit}
-use Rattle.lvm_map.specs.Room.{room_of, TakesNext}
+use Rattle.lvm_map.specs.FreePartitions.{free_partitions, TakesNext}
 use Rattle.lvm_map.proofs.FirstFitLemmas.Fitting.{next_is_some, next_is_none, fits-more}
-use Rattle.lvm_map.proofs.RoomLemmas.Members.{few_members, few_each, free_is}
+use Rattle.lvm_map.proofs.FreePartitionsLemmas.Members.{few_members, few_each, free_is}
 use Rattle.lvm_map.proofs.fit.fit.Goals as goal
 
 pub free-free-requires-clause-members : goal.free-free-requires-clause-members
@@ -48,5 +48,5 @@ loop-room-preserved c =
     record {
       within = omega (arith, ap (λ (pps : List Pp). length pps) pushed, length_push front c.in-Some.pp, c.loop-room-test.true, c.len.ensures, c.loop-room.map.ok);
       fits = subst (IsFirstFit d usable asked) (sym pushed) (fits-more d usable asked front c.in-Some.pp c.loop-room.invariant.fits next.0);
-      room = next.1 ∙ ap (λ (pps : List Pp). room_of d usable (partitions_used d ++ pps)) (sym pushed);
+      room = next.1 ∙ ap (λ (pps : List Pp). free_partitions d usable (partitions_used d ++ pps)) (sym pushed);
     }

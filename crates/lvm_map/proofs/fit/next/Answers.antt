@@ -2,7 +2,7 @@ use Rattle.std.proofs.Common.{◌≡◌, ℕ, ◌-◌, ◌%◌, ◌≤◌, false
 use Rattle.std.proofs.lemmas.Bool.Decides.{nat_tests}
 use Rattle.std.proofs.lemmas.List.{take_rest}
 use Rattle.lvm_num.specs.declared.place.Pp.{Pp}
-use Rattle.lvm_map.specs.Room.{TakesFirstFree}
+use Rattle.lvm_map.specs.FreePartitions.{TakesFirstFree}
 use Rattle.lvm_map.proofs.fit.next.Goals as goal
 
 not_below : (m n : ℕ) → n ≤ m → nat_lt m n ≡ false

@@ -1,5 +1,5 @@
 use Rattle.std.proofs.Common.{◌≡◌, max, length, sym, ap, ◌∙◌, arith}
-use Rattle.lvm_quorum.specs.passed.Survey.{if_passes, is_of, is_status_of}
+use Rattle.lvm_quorum.specs.passed.Transfer.{if_passes, is_of, is_status_of}
 use Rattle.lvm_quorum.specs.declared.row.SurveyRow.{SurveyRow}
 use Rattle.lvm_quorum.specs.Surveyed.{surveyed}
 use Rattle.lvm_quorum.specs.Groups.{epoch_of, epoch_on}

@@ -1,7 +1,7 @@
 use Rattle.std.proofs.Common.{◌≡◌, ℕ, Some, sym, ◌∙◌}
 use Rattle.lvm_num.specs.Disks.{has}
 use Rattle.lvm_num.specs.Votes.{all_disks}
-use Rattle.lvm_quorum.specs.passed.Survey.{descriptor_among, is_voter}
+use Rattle.lvm_quorum.specs.passed.Transfer.{descriptor_among, is_voter}
 use Rattle.lvm_quorum.specs.Surveyed.{surveyed}
 use Rattle.lvm_quorum.specs.Groups.{shown_record}
 use Rattle.lvm_quorum.proofs.KeptGroupLemmas.Chosen.{status_is}

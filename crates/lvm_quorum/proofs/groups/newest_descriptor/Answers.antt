@@ -1,6 +1,6 @@
 use Rattle.std.proofs.Common.{◌≡◌, length, refl, sym, ap, ◌∙◌, arith}
 use Rattle.lvm_num.specs.Record.{newer, newest_below}
-use Rattle.lvm_quorum.specs.passed.Survey.{descriptor_among, if_passes, is_of}
+use Rattle.lvm_quorum.specs.passed.Transfer.{descriptor_among, if_passes, is_of}
 use Rattle.lvm_quorum.specs.declared.row.SurveyRow.{SurveyRow}
 use Rattle.lvm_quorum.specs.Surveyed.{surveyed}
 use Rattle.lvm_quorum.specs.Groups.{shown_record_if}

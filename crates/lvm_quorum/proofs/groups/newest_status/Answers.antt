@@ -2,7 +2,7 @@ use Rattle.std.proofs.Common.{◌≡◌, length, None, refl, sym, ap, ◌∙◌,
 use Rattle.std.specs.Prelude.{if◌then◌else◌}
 use Rattle.lvm_num.specs.Disks.{has}
 use Rattle.lvm_num.specs.Record.{newer, newest_below}
-use Rattle.lvm_quorum.specs.passed.Survey.{if_passes, is_status_of}
+use Rattle.lvm_quorum.specs.passed.Transfer.{if_passes, is_status_of}
 use Rattle.lvm_quorum.specs.declared.row.SurveyRow.{SurveyRow}
 use Rattle.lvm_quorum.specs.Surveyed.{surveyed}
 use Rattle.lvm_quorum.specs.Groups.{shown_record_if}

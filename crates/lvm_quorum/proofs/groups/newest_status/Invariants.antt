@@ -2,7 +2,7 @@ use Rattle.std.proofs.Common.{◌≡◌, None}
 use Rattle.std.specs.Prelude.{if◌then◌else◌}
 use Rattle.lvm_num.specs.Disks.{has}
 use Rattle.lvm_num.specs.Record.{newest_below}
-use Rattle.lvm_quorum.specs.passed.Survey.{if_passes, is_status_of}
+use Rattle.lvm_quorum.specs.passed.Transfer.{if_passes, is_status_of}
 use Rattle.lvm_quorum.specs.Surveyed.{surveyed}
 use Rattle.lvm_quorum.specs.Groups.{shown_record_if}
 use Rattle.lvm_quorum.proofs.groups.newest_status.Given as goal

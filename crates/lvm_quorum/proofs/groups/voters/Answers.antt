@@ -2,7 +2,7 @@ use Rattle.std.proofs.Common.{◌≡◌, ℕ, ◌||◌, length, sym, ap, ◌∙�
 use Rattle.std.specs.Prelude.{◌==◌}
 use Rattle.lvm_num.specs.Disks.{has}
 use Rattle.lvm_num.specs.Votes.{all_disks}
-use Rattle.lvm_quorum.specs.passed.Survey.{members_in}
+use Rattle.lvm_quorum.specs.passed.Transfer.{members_in}
 use Rattle.lvm_quorum.specs.declared.row.SurveyRow.{SurveyRow}
 use Rattle.lvm_quorum.specs.Surveyed.{surveyed}
 use Rattle.lvm_quorum.proofs.SurveyedLemmas.SurveyRows.{row_read}

@@ -1,6 +1,6 @@
 use Rattle.lvm_num.specs.Disks.{has}
 use Rattle.lvm_num.specs.Votes.{all_disks}
-use Rattle.lvm_quorum.specs.passed.Survey.{members_in}
+use Rattle.lvm_quorum.specs.passed.Transfer.{members_in}
 use Rattle.lvm_quorum.specs.Surveyed.{surveyed}
 use Rattle.lvm_quorum.proofs.Passing.{PassBelow}
 use Rattle.lvm_quorum.proofs.groups.voters.Given as goal

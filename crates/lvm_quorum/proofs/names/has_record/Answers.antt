@@ -1,7 +1,8 @@
 use Rattle.std.proofs.Common.{◌≡◌, ℕ, length, None, sym, ap, subst, ◌∙◌, arith}
 use Rattle.lvm_num.specs.Votes.{all_disks}
 use Rattle.lvm_num.proofs.Lists.{none_there}
-use Rattle.lvm_quorum.specs.passed.Survey.{status_among, under}
+use Rattle.lvm_quorum.specs.passed.Transfer.{status_among}
+use Rattle.lvm_quorum.specs.Reading.{under}
 use Rattle.lvm_quorum.specs.declared.row.SurveyRow.{SurveyRow}
 use Rattle.lvm_quorum.specs.Surveyed.{surveyed}
 use Rattle.lvm_quorum.proofs.SurveyedLemmas.SurveyRows.{row_read}

@@ -1,6 +1,6 @@
 use Rattle.std.proofs.Common.{◌≡◌, ℕ, ◌<◌, None}
 use Rattle.lvm_num.specs.Votes.{all_disks}
-use Rattle.lvm_quorum.specs.passed.Survey.{status_among}
+use Rattle.lvm_quorum.specs.passed.Transfer.{status_among}
 use Rattle.lvm_quorum.specs.Surveyed.{surveyed}
 use Rattle.lvm_quorum.specs.Groups.{IsNamedBy}
 use Rattle.lvm_quorum.proofs.names.has_record.Given as goal

@@ -1,6 +1,6 @@
 use Rattle.std.proofs.Common.{◌≡◌, length, ap, ◌∙◌, arith}
 use Rattle.lvm_quorum.specs.declared.row.SurveyRow.{SurveyRow}
-use Rattle.lvm_quorum.specs.passed.Survey.{under}
+use Rattle.lvm_quorum.specs.Reading.{under}
 use Rattle.lvm_quorum.proofs.SurveyedLemmas.SurveyRows.{row_read}
 use Rattle.lvm_quorum.proofs.GroupsLemmas.Naming.{one_id, named_more, named_all}
 use Rattle.lvm_quorum.proofs.names.other_named.Goals as goal

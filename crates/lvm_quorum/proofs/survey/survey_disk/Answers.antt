@@ -1,5 +1,5 @@
 use Rattle.std.proofs.Common.{◌≡◌, Some, slice_index_or, refl, sym, ◌∙◌, ap, arith}
-use Rattle.lvm_quorum.specs.passed.Area.{Media, image_of, Here}
+use Rattle.lvm_quorum.specs.passed.Transfer.{Media, image_of, Here}
 use Rattle.lvm_quorum.specs.Surveyed.{IsRead}
 use Rattle.lvm_quorum.specs.Reading.{IsArea}
 use Rattle.lvm_quorum.proofs.passed.Names.{or_got, told-always, told-more, only_none, rested_none, stop_of}

@@ -1,6 +1,6 @@
 use Rattle.std.proofs.Common.{◌≡◌, drop}
 use Rattle.std.specs.List.{list_all}
-use Rattle.lvm_status.specs.passed.StaleNames.{PvRow}
+use Rattle.lvm_status.specs.passed.Num.{PvRow}
 use Rattle.lvm_status.specs.Table.{has_row}
 use Rattle.lvm_status.proofs.updater.all_have_rows.Given as goal
 

@@ -1,7 +1,7 @@
 use Rattle.std.proofs.Common.{◌≡◌, drop}
 use Rattle.std.specs.Prelude.{◌||◌}
 use Rattle.std.specs.List.{list_any}
-use Rattle.lvm_status.specs.passed.StaleNames.{PvRow, has}
+use Rattle.lvm_status.specs.passed.Num.{PvRow, has}
 use Rattle.lvm_status.proofs.updater.is_any_owed.Given as goal
 
 abbrev pub invariant-loop-row : goal.invariant-loop-row

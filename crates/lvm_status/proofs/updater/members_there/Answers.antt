@@ -2,7 +2,7 @@ use Rattle.std.proofs.Common.{◌≡◌, ◌<◌, ◌≤◌, false, ◌&&◌, �
 use Rattle.std.specs.Prelude.{◌==◌}
 use Rattle.std.specs.List.{list_any}
 use Rattle.std.proofs.lemmas.List.{take_all}
-use Rattle.lvm_status.specs.passed.StaleNames.{PvRow, has, calls_missing}
+use Rattle.lvm_status.specs.passed.Num.{PvRow, has, calls_missing}
 use Rattle.lvm_status.specs.Update.{members_there}
 use Rattle.lvm_status.proofs.Disks.{there_more, same_disks, adds, leaves, swap}
 use Rattle.lvm_status.proofs.updater.members_there.Goals as goal

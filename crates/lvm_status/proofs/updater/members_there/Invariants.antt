@@ -1,7 +1,7 @@
 use Rattle.std.proofs.Common.{◌≡◌, ℕ, ◌&&◌, not, take}
 use Rattle.std.specs.Prelude.{◌==◌}
 use Rattle.std.specs.List.{list_any}
-use Rattle.lvm_status.specs.passed.StaleNames.{PvRow, has, calls_missing}
+use Rattle.lvm_status.specs.passed.Num.{PvRow, has, calls_missing}
 use Rattle.lvm_status.proofs.updater.members_there.Given as goal
 
 abbrev pub invariant-loop-row : goal.invariant-loop-row

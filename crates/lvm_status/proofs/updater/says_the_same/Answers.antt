@@ -1,5 +1,5 @@
 use Rattle.std.proofs.Common.{◌≡◌, sym, ap, ◌∙◌}
-use Rattle.lvm_status.specs.passed.StaleNames.{Status}
+use Rattle.lvm_status.specs.passed.Num.{Status}
 use Rattle.lvm_status.proofs.Same.{same_status, status_one, status_own}
 use Rattle.lvm_status.proofs.updater.says_the_same.Goals as goal
 

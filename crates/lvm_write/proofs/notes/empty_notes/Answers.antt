@@ -1,7 +1,7 @@
 use Rattle.std.proofs.Common.{◌+◌, arith, sym, subst, ◌∙◌}
 use Rattle.lvm_num.specs.Buffer.{Sector}
 use Rattle.lvm_num.specs.Disks.{Disks, has}
-use Rattle.lvm_quorum.specs.passed.Survey.{IsOfNote}
+use Rattle.lvm_quorum.specs.passed.Transfer.{IsOfNote}
 use Rattle.lvm_quorum.specs.passed.TransferMovesMoved as moved
 use Rattle.lvm_write.specs.Notes.{empty_note_sector, NoteTold}
 use Rattle.lvm_write.proofs.WritesLemmas.{nothing_tried, none_here, well_here, badly_here, leaves_here, dark_here, stuck_here, tried_ends, as_tried}

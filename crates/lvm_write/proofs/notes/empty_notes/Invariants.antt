@@ -1,5 +1,5 @@
 use Rattle.lvm_num.specs.Disks.{has}
-use Rattle.lvm_quorum.specs.passed.Survey.{IsOfNote}
+use Rattle.lvm_quorum.specs.passed.Transfer.{IsOfNote}
 use Rattle.lvm_write.specs.Notes.{empty_note_sector, NoteTold}
 use Rattle.lvm_write.proofs.WritesLemmas.{TriedDisks}
 use Rattle.lvm_write.proofs.notes.empty_notes.Given as goal

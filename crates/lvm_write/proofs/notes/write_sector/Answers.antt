@@ -1,6 +1,6 @@
 use Rattle.std.proofs.Common.{◌≡◌, Some, slice_get, sym, ap, ◌∙◌, refl, arith}
 use Rattle.lvm_num.specs.Buffer.{Buffer}
-use Rattle.lvm_quorum.specs.passed.Survey.{IsOfNote}
+use Rattle.lvm_quorum.specs.passed.Transfer.{IsOfNote}
 use Rattle.lvm_write.proofs.NotesLemmas.{first_put, note_planned}
 use Rattle.lvm_write.proofs.PartsLemmas.Pieces.{piece_part}
 use Rattle.lvm_write.proofs.notes.write_sector.Goals as goal

@@ -1,7 +1,7 @@
 use Rattle.std.proofs.Common.{◌≡◌, ◌+◌, ℕ, sym, ap, ◌∙◌, eq-eqb, refl}
 use Rattle.std.specs.Prelude.{if◌then◌else◌}
 use Rattle.lvm_num.specs.Record.{slot_start}
-use Rattle.lvm_quorum.specs.passed.Survey.{IsOfRecord}
+use Rattle.lvm_quorum.specs.passed.Transfer.{IsOfRecord}
 use Rattle.lvm_write.specs.Parts.{write_to}
 use Rattle.lvm_write.proofs.PartsLemmas.Pieces.{frames_planned, range_planned, piece_part}
 use Rattle.lvm_write.proofs.write.write_piece.Goals as goal

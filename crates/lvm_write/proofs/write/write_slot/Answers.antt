@@ -1,5 +1,5 @@
 use Rattle.std.proofs.Common.{arith, ◌+◌, length}
-use Rattle.lvm_quorum.specs.passed.Survey.{IsOfRecord}
+use Rattle.lvm_quorum.specs.passed.Transfer.{IsOfRecord}
 use Rattle.lvm_write.specs.Parts.{write_to, PartsStand}
 use Rattle.lvm_num.specs.Buffer.{Buffer}
 use Rattle.lvm_num.specs.Record.{record_sectors}

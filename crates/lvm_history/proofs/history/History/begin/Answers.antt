@@ -6,7 +6,7 @@ use Rattle.lvm_allowed.specs.declared.row.Ask.{Ask}
 use Rattle.lvm_chains.specs.Places.{Indexed}
 use Rattle.lvm_chains.proofs.AlongLemmas.{chains_count}
 use Rattle.lvm_history.proofs.IndexLemmas.{tight, tight_sound, begun_indexed}
-use Rattle.lvm_history.specs.passed.CheckerNames.{Begun, next_id, is_open, asked, next_request}
+use Rattle.lvm_history.specs.passed.Vol.{Begun, next_id, is_open, asked, next_request}
 use Rattle.lvm_history.proofs.KeepingLemmas.{Adds, BeginsRow, begun_adds, begun_found, room_to_begin, next_number}
 use Rattle.lvm_history.proofs.history.History.begin.Goals as goal
 

@@ -1,7 +1,7 @@
 use Rattle.std.proofs.Common.{◌<◌, List, length, map, Some, sym, ap, ◌∙◌, subst, arith, slice_get}
 use Rattle.std.proofs.lemmas.List.{get_or-map, length-map}
 use Rattle.std.proofs.lemmas.Option.{slice_get-get_or}
-use Rattle.lvm_history.specs.passed.CheckerNames.{Entry}
+use Rattle.lvm_history.specs.passed.Vol.{Entry}
 use Rattle.lvm_allowed.specs.declared.row.Ask.{Ask}
 use Rattle.lvm_allowed.specs.declared.row.Row.{Row}
 use Rattle.lvm_history.specs.Opened.{kept_of}

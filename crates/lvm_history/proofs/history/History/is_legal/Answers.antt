@@ -1,7 +1,7 @@
 use Rattle.std.proofs.Common.{◌≡◌, ◌↔◌, IsTrue, List, ap, ◌∙◌, subst}
 use Rattle.std.specs.List.{list_all}
 use Rattle.lvm_allowed.specs.declared.row.Ask.{Ask}
-use Rattle.lvm_history.specs.passed.CheckerNames.{Fact, Legal, Log}
+use Rattle.lvm_history.specs.passed.Vol.{Fact, Legal, Log}
 use Rattle.lvm_allowed.specs.Fitting.{is_bounded}
 use Rattle.lvm_history.specs.Opened.{kept_of}
 use Rattle.lvm_allowed.specs.Rows.{facts_of}

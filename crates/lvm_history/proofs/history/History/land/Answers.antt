@@ -2,7 +2,7 @@ use Rattle.std.proofs.Common.{refl, arith, ap, sym, ◌∙◌, length, List, ◌
 use Rattle.lvm_allowed.specs.declared.row.Ask.{Ask}
 use Rattle.lvm_history.specs.Opened.{kept_of}
 use Rattle.lvm_chains.specs.Places.{Indexed}
-use Rattle.lvm_history.specs.passed.CheckerNames.{Landed, request_of, got_without_bytes}
+use Rattle.lvm_history.specs.passed.Vol.{Landed, request_of, got_without_bytes}
 use Rattle.lvm_history.proofs.KeepingLemmas.{Adds, landed_adds, landed_answered, landed_room, log_ask, open_some}
 use Rattle.lvm_chains.proofs.AlongLemmas.{chains_count}
 use Rattle.lvm_history.proofs.IndexLemmas.{tight, tight_sound, landed_indexed}

@@ -6,7 +6,7 @@ use Rattle.lvm_allowed.specs.declared.row.Ask.{Ask}
 use Rattle.lvm_history.specs.Opened.{kept_of}
 use Rattle.lvm_allowed.specs.Rows.{no_ask, ask_of}
 use Rattle.lvm_history.specs.Keeping.{Holdings}
-use Rattle.lvm_history.specs.passed.CheckerNames.{Landed, request_of}
+use Rattle.lvm_history.specs.passed.Vol.{Landed, request_of}
 use Rattle.lvm_history.proofs.KeepingLemmas.{Adds, read_adds, landed_answered, landed_room, awaited_of, chunks_count, length-first_chunks_of, log_ask, open_some}
 use Rattle.lvm_chains.specs.Places.{Indexed}
 use Rattle.lvm_chains.proofs.AlongLemmas.{chains_count}

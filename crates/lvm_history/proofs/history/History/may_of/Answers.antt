@@ -1,5 +1,5 @@
 use Rattle.std.proofs.Common.{◌≡◌, ◌↔◌, IsTrue, List, ap, ◌∙◌, subst}
-use Rattle.lvm_history.specs.passed.CheckerNames.{Fact, Log, known, May}
+use Rattle.lvm_history.specs.passed.Vol.{Fact, Log, known, May}
 use Rattle.lvm_history.specs.Opened.{kept_of}
 use Rattle.lvm_allowed.specs.Rows.{facts_of}
 use Rattle.lvm_history.proofs.KeepingLemmas.{facts_alike}

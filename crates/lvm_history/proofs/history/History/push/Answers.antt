@@ -1,7 +1,7 @@
 use Rattle.std.proofs.Common.{refl, arith, ◌+◌, ◌++◌, [], ◌∷◌, ap, ◌∙◌}
 use Rattle.lvm_allowed.specs.declared.row.Row.{Row}
 use Rattle.lvm_history.specs.Opened.{kept_of}
-use Rattle.lvm_history.specs.passed.CheckerNames.{plain_fact}
+use Rattle.lvm_history.specs.passed.Vol.{plain_fact}
 use Rattle.lvm_history.proofs.KeepingLemmas.{Adds, pushed_adds, pushed_room}
 use Rattle.lvm_history.specs.Keeping.{row_of}
 use Rattle.lvm_chains.specs.Places.{Indexed}

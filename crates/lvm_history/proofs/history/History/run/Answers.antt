@@ -1,5 +1,5 @@
 use Rattle.std.proofs.Common.{[], subst}
-use Rattle.lvm_history.specs.passed.CheckerNames.{Log, Ordered}
+use Rattle.lvm_history.specs.passed.Vol.{Log, Ordered}
 use Rattle.lvm_history.proofs.history.History.run.Goals as goal
 
 pub returns-clause-ordered : goal.returns-clause-ordered

@@ -1,5 +1,5 @@
 use Rattle.std.proofs.Common.{ap, arith}
-use Rattle.lvm_history.specs.passed.CheckerNames.{Log}
+use Rattle.lvm_history.specs.passed.Vol.{Log}
 use Rattle.lvm_history.specs.Opened.{kept_of}
 use Rattle.lvm_history.proofs.KeepingLemmas.{blocks_count}
 use Rattle.lvm_history.proofs.history.History.spare_bytes.Goals as goal

@@ -1,6 +1,6 @@
 use Rattle.std.proofs.Common.{refl, arith, ap, ◌∙◌, length}
 use Rattle.lvm_history.specs.Opened.{kept_of}
-use Rattle.lvm_history.specs.passed.CheckerNames.{Taken, request_of}
+use Rattle.lvm_history.specs.passed.Vol.{Taken, request_of}
 use Rattle.lvm_history.proofs.KeepingLemmas.{Adds, log_ask, taken_adds, taken_room}
 use Rattle.lvm_chains.specs.Places.{Indexed}
 use Rattle.lvm_chains.proofs.AlongLemmas.{chains_count}

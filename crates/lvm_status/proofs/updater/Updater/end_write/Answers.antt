@@ -1,5 +1,5 @@
 use Rattle.std.proofs.Common.{ap, ◌∙◌}
-use Rattle.lvm_status.specs.passed.StaleNames.{has}
+use Rattle.lvm_status.specs.passed.Num.{has}
 use Rattle.lvm_status.specs.Update.{Stored}
 use Rattle.lvm_status.proofs.Disks.{member-below}
 use Rattle.lvm_status.proofs.MembersLemmas.Fit.{fit_next, stays}

@@ -1,5 +1,5 @@
 use Rattle.std.proofs.Common.{false, subst}
-use Rattle.lvm_status.specs.passed.StaleNames.{IsValidStatus}
+use Rattle.lvm_status.specs.passed.Num.{IsValidStatus}
 use Rattle.lvm_status.proofs.MembersLemmas.Fit.{fit_known, fit_next}
 use Rattle.lvm_status.proofs.updater.Updater.mark_left.Goals as goal
 

@@ -1,4 +1,0 @@
-use Rattle.lvm_core.proofs.driver.Driver.power.Goals as goal
-
-pub returns-clause-heard : goal.returns-clause-heard
-returns-clause-heard g c = c.self.invariant.1.heard
