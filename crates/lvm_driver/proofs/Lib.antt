@@ -8,4 +8,6 @@ mod AnswersLemmas
 pub mod BeginningsLemmas
 mod LogLemmas
 mod CallsLemmas
+mod CommitsLemmas
+pub mod EndedLemmas
 pub mod StandingLemmas

@@ -1,5 +1,5 @@
 //! A session over its shelf.
-ghost use Rattle.std.specs.Prelude.{◌≡◌, ◌≢◌, true, None, IfErr, ◌≤◌, ◌<◌, ◌+◌, ◌^◌, ◌↔◌, IsTrue, ℕ, false, Some, [], length, option_copied, slice_get};
+ghost use Rattle.std.specs.Prelude.{◌≡◌, ◌≢◌, ◌≤◌, ◌<◌, ◌+◌, ◌^◌, ◌↔◌, IfErr, IsTrue, ℕ, true, false, None, Some, [], length, option_copied, slice_get};
 ghost use Rattle.std.specs.List.{list_any};
 ghost use Rattle.lvm_num.specs.Descriptor.{IsValid};
 ghost use Rattle.lvm_num.specs.Votes.{total_votes};
@@ -341,6 +341,13 @@ impl<S: Shelf> Driver<S> {
         ensures { slice_get (S.device self.now.0).sizes disk ≡ Some result }
     {
         self.shelf.sectors(disk)
+    }
+
+    /// The stamp of the last record of this session.
+    pub fn stamp(&self) -> Stamp
+        ensures { result ≡ self.now.1.status.stamp }
+    {
+        self.session.updater.stamp()
     }
 
     /// How many sequence numbers are left for the stamps of this session's records.
