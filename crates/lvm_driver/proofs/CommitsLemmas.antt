@@ -1,40 +1,40 @@
 -- A move that is done is committed, once turns find nothing to do.
-use Rattle.std.proofs.Common.{◌≡◌, ◌≢◌, ◌||◌, ℕ, Bool, true, false, List, length, length-set, Option, None, Some, if◌then◌else◌, refl, sym, ap, subst, ◌∙◌}
+use Rattle.std.proofs.Common.{◌≡◌, ◌≢◌, ℕ, Bool, true, false, List, length, length-set, Option, None, Some, if◌then◌else◌, refl, sym, ap, subst, ◌∙◌}
 use Rattle.std.specs.Prelude.{Err, IfErr, IfSome, Ok, Result, slice_set}
 use Rattle.std.specs.Option.{option_map_or}
 use Rattle.lvm_num.specs.declared.descriptor.Descriptor.{Descriptor}
+use Rattle.lvm_num.specs.Descriptor.{IsValid}
 use Rattle.lvm_num.specs.DescriptorBytes.{descriptor_bytes}
 use Rattle.lvm_moved.specs.Moved.{moved_descriptor}
 use Rattle.lvm_disk.specs.Device.{Device}
 use Rattle.lvm_commit.specs.declared.commit.CommitEnd.{CommitEnd}
 use Rattle.lvm_commit.specs.declared.commit.CommitEnd.TheVariants as commit_end
-use Rattle.lvm_session.specs.declared.answers.CopyState.{CopyState}
+use Rattle.lvm_commit.specs.Settling.{IsContentOf}
+use Rattle.lvm_commit.proofs.passed.Names.{spelled_is_read}
 use Rattle.lvm_session.specs.declared.answers.CopyState.TheVariants as stage
-use Rattle.lvm_session.specs.declared.bringing.CopyEnd.{CopyEnd}
-use Rattle.lvm_session.specs.declared.bringing.CopyEnd.TheVariants as ending
 use Rattle.lvm_session.specs.declared.bringing.OpenCopy.{OpenCopy}
 use Rattle.lvm_session.specs.declared.session.Session.{Session}
-use Rattle.lvm_session.specs.Bringing.{is_out, with_back}
-use Rattle.lvm_session.specs.Calls.{copy_state, is_still_aimed, state_at_end, state_of_copy}
+use Rattle.lvm_session.specs.Bringing.{with_back}
+use Rattle.lvm_session.specs.Calls.{copy_state}
 use Rattle.lvm_session.specs.Dark.{hand_of_copy, with_hands}
 use Rattle.lvm_session.specs.Fields.{core_of}
-use Rattle.lvm_session.specs.Judging.{is_move_done}
 use Rattle.lvm_session.specs.Rooms.{HasRooms, SameRooms}
-use Rattle.lvm_session.specs.Sound.{IsCopy, IsMove, IsOfKind, IsSound}
+use Rattle.lvm_session.specs.Sound.{IsCopy, IsSound}
 use Rattle.lvm_session.specs.State.{Core, State, state}
 use Rattle.lvm_core.specs.Committing.{with_one_out}
 use Rattle.lvm_core.specs.declared.fault.CommitFault.{CommitFault}
 use Rattle.lvm_core.specs.declared.fault.CommitFault.TheVariants as fault
+use Rattle.lvm_core.proofs.RecordLemmas.{descriptor_fits}
 use Rattle.lvm_keeps_events.specs.Telling.{SameRoom}
 use Rattle.lvm_keeps_events.proofs.passed.Names.{back_long, hands_long}
 use Rattle.lvm_move.specs.Moving.{CommitsMove, Misses, MoveEnds, Writes, missing_destination}
 use Rattle.lvm_move_keeps.specs.Drained.{IsDrainedMoving, MayCommitMove}
 use Rattle.lvm_move_keeps.specs.Keeping.{HasMovedTo}
-use Rattle.lvm_move_keeps.proofs.DrainedLemmas.{done_may_commit, drained_is_done}
+use Rattle.lvm_move_keeps.proofs.DrainedLemmas.{done_is_judged, done_may_commit, drained_is_done}
 use Rattle.lvm_move_keeps.proofs.StandsLemmas.{move_has_moved}
 use Rattle.lvm_going.specs.Frames.{is_moving}
 use Rattle.lvm_going.specs.Going.{CommitsItsMove, CommitsOpenMove, LeavesMoving, MovingStep, closed_after}
-use Rattle.lvm_going.specs.Moves.{next_by, next_in, next_of}
+use Rattle.lvm_going.specs.Moves.{next_in, next_of}
 use Rattle.lvm_going.proofs.GoingLemmas.{moving_keeps}
 use Rattle.lvm_going.proofs.JoinsLemmas.{moving_one}
 use Rattle.lvm_driver.specs.Drains.{IsDrained}
@@ -54,26 +54,6 @@ moving_copy core moves = by core.copy refl
     by : (m : Option OpenCopy) → core.copy ≡ m → IsMovingCopy core
     by None is = absurd (let e : false ≡ true = sym (ap (λ m. option_map_or (λ (c : OpenCopy). c.moves) m false) is) ∙ moves in cc e)
     by (Some c) is = record { copy = c; is_open = is; moves = sym (ap (λ m. option_map_or (λ (c : OpenCopy). c.moves) m false) is) ∙ moves }
-
--- one that never ends as done is so by what is judged of it
-move_is_done : (core : Core) (c : OpenCopy) → (c.end ≡ Some ending.Done → ⊥) → state_of_copy core c ≡ stage.Done → is_move_done core c ≡ true
-move_is_done core c never done = by (is_out c.step || is_still_aimed core c) (is_move_done core c) c.end refl refl refl
-  where
-    told : Bool → Bool → Option CopyEnd → CopyState
-    told out moved end = if out then stage.Running c.cursor else if moved then stage.Done else option_map_or (state_at_end c) end (stage.Running c.cursor)
-
-    shown : (out moved : Bool) (end : Option CopyEnd) → (is_out c.step || is_still_aimed core c) ≡ out → is_move_done core c ≡ moved → c.end ≡ end → told out moved end ≡ stage.Done
-    shown out moved end a b e =
-        sym (ap (λ x. told x (is_move_done core c) c.end) a ∙ ap (λ x. told out x c.end) b ∙ ap (told out moved) e) ∙ done
-
-    by : (out moved : Bool) (end : Option CopyEnd) → (is_out c.step || is_still_aimed core c) ≡ out → is_move_done core c ≡ moved → c.end ≡ end → is_move_done core c ≡ true
-    by out true end a b e = b
-    by true false end a b e = absurd (let x : stage.Running c.cursor ≡ stage.Done = shown true false end a b e in cc x)
-    by false false None a b e = absurd (let x : stage.Running c.cursor ≡ stage.Done = shown false false None a b e in cc x)
-    by false false (Some ending.Done) a b e = absurd (never e)
-    by false false (Some ending.SyncFailed) a b e = absurd (let x : stage.SyncFailed c.pp.disk ≡ stage.Done = shown false false (Some ending.SyncFailed) a b e in cc x)
-    by false false (Some ending.NoFresh) a b e = absurd (let x : stage.NoFresh ≡ stage.Done = shown false false (Some ending.NoFresh) a b e in cc x)
-    by false false (Some ending.Ended) a b e = absurd (let x : stage.Ended ≡ stage.Done = shown false false (Some ending.Ended) a b e in cc x)
 
 -- ---- when it may be committed
 
@@ -96,9 +76,6 @@ ready_move s next sound drained moves done epoch ready = record { copy = c; drai
     copy : IsCopy s.core c
     copy = subst (λ m. IfSome m (IsCopy s.core)) its.is_open (sound.on drained.on).going.copy
 
-    move : IsMove s.core c
-    move = subst (λ b. IsOfKind b s.core c) its.moves copy.kind
-
     now : IsDrainedMoving s c
     now = record {
       on = drained.on;
@@ -106,7 +83,7 @@ ready_move s next sound drained moves done epoch ready = record { copy = c; drai
       none = drained.none;
       idle = drained.idle;
       is_open = its.is_open;
-      done = move_is_done s.core c move.ends (sym (ap (λ m. option_map_or (state_of_copy s.core) m stage.Closed) its.is_open) ∙ done);
+      done = done_is_judged s c sound drained.on its.is_open its.moves done;
     }
 
     by_flag : (b : Bool) → b ≡ true → Some next ≡ (if b then Some (moved_descriptor s.core.descriptor c.lv c.lp c.copy c.pp) else None) → next ≡ moved_descriptor s.core.descriptor c.lv c.lp c.copy c.pp
@@ -118,6 +95,10 @@ ready_move s next sound drained moves done epoch ready = record { copy = c; drai
 
     moved : HasMovedTo c.lv c.lp c.pp s.core.descriptor next
     moved = subst (HasMovedTo c.lv c.lp c.pp s.core.descriptor) (sym is) (move_has_moved s.core c sound.fitting.valid copy its.moves)
+
+-- the bytes with which a descriptor is ready are those of its record
+pub content_is : (d : Descriptor) → IsValid d → IsContentOf d (descriptor_bytes d)
+content_is d valid = record { fits = descriptor_fits d valid; describes = spelled_is_read d valid }
 
 -- ---- what the commit leaves
 

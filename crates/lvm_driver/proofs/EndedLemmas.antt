@@ -24,7 +24,7 @@ use Rattle.lvm_keeps.proofs.StateLemmas.{state_ended}
 use Rattle.lvm_keeps_events.proofs.KeepsFallsLemmas.Standing.{never_stands_still, none_waits_at_all}
 use Rattle.lvm_going.specs.Moves.{next_of}
 use Rattle.lvm_going.proofs.FramesLemmas.{turn_next}
-use Rattle.lvm_driver.specs.Drains.{DrainedHasEnded, IsDrained, IsTurn, TurnsKeepMove}
+use Rattle.lvm_driver.specs.Drains.{DrainedHasEnded, IsDrained, IsTurn}
 
 -- where no transfer is out none is owned
 none_flown : (core : Core) (rows : List Flown) (flights : List Flight) → AreRows core rows flights → flights ≡ [] → rows ≡ []
@@ -130,9 +130,7 @@ module _ (s : State) (sound : IsSound s) (drained : IsDrained s) where
 pub drained_has_ended : DrainedHasEnded
 drained_has_ended s sound drained cursor runs = has_ended s sound drained cursor runs
 
-path_keeps_move : {P : State → Type 0} {first last : State} → Path IsTurn P first last → next_of last.core ≡ next_of first.core
+-- a copy that moves does so to the same partition however many turns are made
+pub path_keeps_move : {P : State → Type 0} {first last : State} → Path IsTurn P first last → next_of last.core ≡ next_of first.core
 path_keeps_move (Here here) = refl
 path_keeps_move {first = first} {last = last} (Then {m = mid} path turn there) = turn_next mid last turn.0 turn.1 ∙ path_keeps_move path
-
-pub turns_keep_move : TurnsKeepMove
-turns_keep_move first last path = path_keeps_move path

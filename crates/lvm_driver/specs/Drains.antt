@@ -2,7 +2,6 @@
 use Rattle.std.specs.Prelude.{◌≡◌, ◌+◌, ◌≤◌, ℕ, [], false, None, Result, Ok, Err}
 use Rattle.lvm_num.specs.Votes.{total_votes}
 use Rattle.lvm_session.specs.declared.open.Power.TheVariants as power
-use Rattle.lvm_disk.specs.Paths.{Path}
 use Rattle.lvm_session.specs.declared.answers.CopyState.TheVariants as copy
 use Rattle.lvm_session.specs.Calls.{copy_state}
 use Rattle.lvm_session.specs.Enabled.{first_event, is_lost}
@@ -11,7 +10,6 @@ use Rattle.lvm_session.specs.State.{State, votes_there}
 use Rattle.lvm_session.specs.declared.answers.Turned.{Turned}
 use Rattle.lvm_session.specs.declared.answers.Turned.TheVariants as turned
 use Rattle.lvm_session.specs.Turns.{Finds, TurnMakes}
-use Rattle.lvm_going.specs.Moves.{next_of}
 use Rattle.lvm_core.specs.declared.fault.CommitFault.{CommitFault}
 use Rattle.lvm_core.specs.declared.fault.CommitFault.TheVariants as fault
 
@@ -51,10 +49,6 @@ DrainEnds left s (Err why) = FailsSo left s why
 -- Then a copy that is open doesn't run: it has ended, or it is a move that is done.
 abbrev pub DrainedHasEnded : Type 0
 DrainedHasEnded = (s : State) → IsSound s → IsDrained s → (cursor : ℕ) → copy_state s.core ≡ copy.Running cursor → ⊥
-
--- A copy that moves does so to the same partition however many turns are made, and the descriptor stays that is to be ready for it.
-abbrev pub TurnsKeepMove : Type 0
-TurnsKeepMove = (first last : State) → Path IsTurn IsAny first last → next_of last.core ≡ next_of first.core
 
 -- ---- what it costs
 

@@ -1,6 +1,6 @@
 //! Laws: which sessions may begin, which copies may move, and what turns leave of a copy that is open.
 ghost use Rattle.lvm_driver.specs.Beginnings.{EachModeBegins, WholeGroupsBegin};
-ghost use Rattle.lvm_driver.specs.Drains.{DrainedHasEnded, TurnsKeepMove};
+ghost use Rattle.lvm_driver.specs.Drains.{DrainedHasEnded};
 ghost use Rattle.lvm_driver.specs.Moves.{MirrorsMayMove};
 
 /// A session of a group of which no member is missing may begin, whatever the modes of its volumes.
@@ -21,9 +21,4 @@ pub fn mirrors_may_move()
 /// Once turns find nothing to do, a copy that is open doesn't run: it has ended, or it is a move that is done.
 pub fn drained_copies_have_ended()
     ensures { DrainedHasEnded }
-{}
-
-/// Turns leave a copy that moves one that does so to the same partition.
-pub fn turns_keep_moves()
-    ensures { TurnsKeepMove }
 {}
