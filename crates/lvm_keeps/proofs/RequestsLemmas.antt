@@ -163,15 +163,15 @@ pub never_done : (core : Core) (c : OpenCopy) → c.moves ≡ true → end_of co
 never_done core c moves e = by (is_running c) (is_missing core c.pp.disk) (is_whole core c) (is_cleared core c) (ap (λ b. not b && stays_fresh core c.pp) moves) e
   where
     none : None ≡ Some ending.Done → ⊥
-    none no = cc
+    none same = cc
 
     failed : Some ending.SyncFailed ≡ Some ending.Done → ⊥
-    failed no = cc
+    failed same = cc
 
     sources : (a b : Bool) → (if a then Some ending.NoFresh else ends_if b ending.SyncFailed) ≡ Some ending.Done → ⊥
-    sources true b no = cc
-    sources false true no = failed no
-    sources false false no = none no
+    sources true b same = cc
+    sources false true same = failed same
+    sources false false same = none same
 
     by : (a b w d : Bool) → d ≡ false → (if not a then None else if b then Some ending.SyncFailed else if w then ends_if d ending.Done else end_by_sources core c) ≡ Some ending.Done → ⊥
     by false b w d clear i = none i
