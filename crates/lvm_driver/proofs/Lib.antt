@@ -10,4 +10,5 @@ mod LogLemmas
 mod CallsLemmas
 mod CommitsLemmas
 pub mod EndedLemmas
+pub mod EpochLemmas
 pub mod StandingLemmas

@@ -87,7 +87,8 @@ fn stands<S: Shelf>(rt: &impl Abort, driver: &mut Driver<S>) {
 
 // The partition of the volume's second copy.
 fn second<S: Shelf>(driver: &Driver<S>) -> Option<Pp> {
-    driver.descriptor().lvs.first()?.map.get(1).copied()
+    let row = driver.descriptor().lvs.as_slice().first()?;
+    row.map.as_slice().get(1).copied()
 }
 
 // The move is committed where it is asked for, and else given up.
