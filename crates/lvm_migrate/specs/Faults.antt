@@ -30,6 +30,11 @@ IsOfOpening denial.OutOfRange = ⊥
 IsOfOpening denial.InUse = ⊥
 IsOfOpening _ = Unit {0}
 
+-- and of these memory isn't against it
+abbrev pub IsAgainst : OpenFault → Type 0
+IsAgainst denial.Memory = ⊥
+IsAgainst why = IsOfOpening why
+
 abbrev pub opening_fault_is : OpenFault → ℕ → ℕ × ℕ → MoveFault
 opening_fault_is denial.Dark lp off = fault.Dark
 opening_fault_is denial.Off lp off = fault.WentOff off.0 off.1

@@ -1,22 +1,21 @@
 -- The copies of a disk move to another one, one after the other, and what comes of it.
 use Rattle.std.specs.Prelude.{◌≡◌, ◌≢◌, ◌⊎◌, ◌<◌, ◌≤◌, ◌-◌, ◌++◌, ℕ, true, false, List, [], ◌∷◌, length, Option, None, Some, IsSome, Result, Ok, Err, MatchOption, All, is_some, if◌then◌else◌}
-use Rattle.std.specs.List.{list_any}
 use Rattle.std.specs.Option.{option_map, option_map_or}
-use Rattle.lvm_disk.specs.Counts.{Rose, RoseBy}
+use Rattle.lvm_disk.specs.Counts.{NoneFalls, Rose, RoseBy}
 use Rattle.lvm_num.specs.declared.descriptor.Descriptor.{Descriptor}
-use Rattle.lvm_num.specs.declared.descriptor.LvRow.{LvRow}
-use Rattle.lvm_num.specs.Descriptor.{copies_of, is_member, volume_of}
+use Rattle.lvm_num.specs.Descriptor.{is_member, volume_of}
 use Rattle.lvm_num.specs.Votes.{total_votes}
 use Rattle.lvm_session.specs.declared.open.Power.{Power}
 use Rattle.lvm_session.specs.declared.open.Power.TheVariants as power
 use Rattle.lvm_session.specs.Calls.{has_numbers}
-use Rattle.lvm_session.specs.Judging.{is_missing, is_stale, is_usable}
+use Rattle.lvm_session.specs.Judging.{is_missing, is_stale}
 use Rattle.lvm_session.specs.State.{Core, State, votes_there}
 use Rattle.lvm_going.specs.Going.{LeavesMoving}
 use Rattle.lvm_move_plan.specs.declared.plan.PlannedMove.{PlannedMove}
 use Rattle.lvm_move_plan.specs.Planned.{plan_refusal, planned_moves}
 use Rattle.lvm_move_plan.specs.Standing.{standing_on}
 use Rattle.lvm_move_plan.specs.Laws.{after_moves}
+use Rattle.lvm_ranges.specs.Causes.{AnyFails}
 use Rattle.lvm_ranges.specs.Keeping.{KeepsTable}
 use Rattle.lvm_migrate.specs.declared.fault.MoveFault.{MoveFault}
 use Rattle.lvm_migrate.specs.declared.fault.MoveFault.TheVariants as fault
@@ -54,11 +53,11 @@ further_refusal core lv from to = option_map_or (λ why. Some (plan_fault_is why
 abbrev pub migrate_refusal : Core → Option ℕ → ℕ → ℕ → Option MoveFault
 migrate_refusal core lv from to = option_map_or (λ (why : MoveFault). Some why) (session_refusal core to) (further_refusal core lv from to)
 
--- the moves are planned where nothing does; memory may be wanting once the session lets copies move
-abbrev pub ArePlanned : Core → Option ℕ → ℕ → ℕ → Result (List PlannedMove) MoveFault → Type 0
-ArePlanned core lv from to (Ok moves) = (migrate_refusal core lv from to ≡ None) × (moves ≡ planned_moves core.descriptor lv from to)
-ArePlanned core lv from to (Err fault.Memory) = session_refusal core to ≡ None
-ArePlanned core lv from to (Err why) = migrate_refusal core lv from to ≡ Some why
+-- The moves are planned where nothing does. Memory may be wanting once the session lets copies move.
+pub data ArePlanned (core : Core) (lv : Option ℕ) (from to : ℕ) (answer : Result (List PlannedMove) MoveFault) : Type 0 where
+  Plans : migrate_refusal core lv from to ≡ None → answer ≡ Ok (planned_moves core.descriptor lv from to) → ArePlanned core lv from to answer
+  StandsAgainst : (why : MoveFault) → migrate_refusal core lv from to ≡ Some why → answer ≡ Err why → ArePlanned core lv from to answer
+  WantsMemory : session_refusal core to ≡ None → answer ≡ Err fault.Memory → ArePlanned core lv from to answer
 
 -- moves that are planned for some volumes and disks, against which nothing stands
 pub record IsPlanOf (d : Descriptor) (moves : List PlannedMove) : Type 0 where
@@ -125,29 +124,16 @@ IsLeftEmpty lv from d = standing_on d lv from ≡ []
 abbrev pub AreFreshBut : List PlannedMove → State → State → Type 0
 AreFreshBut moves old new = All (λ (m : PlannedMove). is_stale new.core m.to ≡ true → Rose (old.device.counts.faults m.to.disk) (new.device.counts.faults m.to.disk)) moves
 
--- a transfer of some disk has failed meanwhile
-abbrev pub AnyFails : State → State → Type 0
-AnyFails old new = (disk : ℕ) × Rose (old.device.counts.faults disk) (new.device.counts.faults disk)
-
--- no copy of this logical partition of a volume can be used
-pub record LacksUsable (core : Core) (lp : ℕ) : Type 0 where
-  pub lv : ℕ
-  pub row : LvRow
-  pub volume : volume_of core.descriptor lv ≡ Some row
-  pub within : lp < row.lps
-  pub none : list_any (is_usable core) (copies_of row lp) ≡ false
-
--- The power was cut; the votes are lost; the patience has run out; the numbers of stamps are short; the second disk is missing; a transfer has failed; or a logical partition
--- lacks a copy that can be used. For the others nothing has to have happened.
+-- The power was cut; the votes are lost; all of the patience was waited in vain; the numbers of stamps are short; the second disk is missing; or a transfer has failed. For the
+-- others nothing has to have happened.
 abbrev pub MoveCause : ℕ → State → State → MoveFault → Type 0
-MoveCause left old new fault.Dark = new.core.power ≡ power.Dark
-MoveCause left old new (fault.WentOff have total) = (new.core.power ≡ power.Off) × (have ≡ votes_there new.core) × (total ≡ total_votes new.core.descriptor)
-MoveCause left old new fault.Stuck = left ≡ 0
-MoveCause left old new fault.HistoryFull = has_numbers new.core ≡ false
-MoveCause left old new (fault.Missing disk) = is_missing new.core disk ≡ true
-MoveCause left old new (fault.SyncFailed disk) = AnyFails old new
-MoveCause left old new (fault.NoFresh lp) = LacksUsable new.core lp ⊎ AnyFails old new
-MoveCause left old new other = Unit {0}
+MoveCause patience old new fault.Dark = new.core.power ≡ power.Dark
+MoveCause patience old new (fault.WentOff have total) = (new.core.power ≡ power.Off) × (have ≡ votes_there new.core) × (total ≡ total_votes new.core.descriptor)
+MoveCause patience old new fault.Stuck = RoseBy patience old.device.counts.waits new.device.counts.waits
+MoveCause patience old new fault.HistoryFull = has_numbers new.core ≡ false
+MoveCause patience old new (fault.Missing disk) = is_missing new.core disk ≡ true
+MoveCause patience old new (fault.SyncFailed disk) = AnyFails old new
+MoveCause patience old new other = Unit {0}
 
 -- The session goes on by turns, by copies that begin to move, and by commits of moves, with its requests in the table; no order is given; the patience that is gone went with
 -- waits.
@@ -155,5 +141,6 @@ pub record GoesBesideMoving (old new : State) (before after : ℕ) : Type 0 wher
   pub leaves : LeavesMoving old new
   pub table : KeepsTable old.core new.core
   pub orders : new.device.orders ≡ old.device.orders
+  pub counts : NoneFalls old.device.counts new.device.counts
   pub fewer : after ≤ before
   pub waited : RoseBy (before - after) old.device.counts.waits new.device.counts.waits

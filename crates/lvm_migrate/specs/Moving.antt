@@ -1,5 +1,5 @@
 -- One copy moves: it is opened, turns are made until nothing is to be made, and it is committed where it is done.
-use Rattle.std.specs.Prelude.{◌≡◌, ◌≢◌, ◌⊎◌, ℕ, true, Option, None, Some, Result, Ok, Err}
+use Rattle.std.specs.Prelude.{◌≡◌, ◌≢◌, ◌⊎◌, ℕ, true, Option, None, Some, Result, Ok, Err, IfErr}
 use Rattle.lvm_disk.specs.Paths.{Path}
 use Rattle.lvm_num.specs.Votes.{total_votes}
 use Rattle.lvm_session.specs.declared.answers.CopyState.{CopyState}
@@ -15,7 +15,7 @@ use Rattle.lvm_keeps_events.specs.passed.Names.{counts_seen}
 use Rattle.lvm_driver.specs.Answers.{IsCopyCaused}
 use Rattle.lvm_driver.specs.Drains.{DrainCosts, DrainEnds, IsAny, IsDrained, IsTurn}
 use Rattle.lvm_session.specs.Judging.{is_moving}
-use Rattle.lvm_migrate.specs.Faults.{IsOfOpening, commit_fault_is, opening_fault_is}
+use Rattle.lvm_migrate.specs.Faults.{IsAgainst, IsOfOpening, commit_fault_is, opening_fault_is}
 use Rattle.lvm_move_plan.specs.declared.plan.PlannedMove.{PlannedMove}
 use Rattle.lvm_migrate.specs.declared.fault.MoveFault.{MoveFault}
 use Rattle.lvm_migrate.specs.declared.fault.MoveFault.TheVariants as fault
@@ -84,7 +84,7 @@ MovesOne m patience left old new (Err why) = StopsAt m patience left old new why
 
 -- what the plan says of it: no copy is open, and nothing but the session, the second disk and the fresh copies may be in the way
 abbrev pub MayOpen : Core → PlannedMove → Type 0
-MayOpen core m = (why : OpenFault) → fault_of_move core m ≡ Some why → IsOfOpening why
+MayOpen core m = (why : OpenFault) → fault_of_move core m ≡ Some why → IsAgainst why
 
 -- for this, or for want of memory
 abbrev pub IsDeniedBy : Core → PlannedMove → OpenFault → Type 0
@@ -94,7 +94,7 @@ IsDeniedBy core m why = fault_of_move core m ≡ Some why
 -- it is opened, or isn't, and then nothing changes
 abbrev pub Opens : State → State → PlannedMove → Result (Unit {0}) MoveFault → Type 0
 Opens old new m (Ok done) = (fault_of_move old.core m ≡ None) × OpenMoveGives (counts_seen old.device old.core) old.core new.core m.copy.lv m.copy.lp m.copy.number m.to (Ok tt) × (new.device ≡ old.device)
-Opens old new m (Err why) = (new ≡ old) × ((denied : OpenFault) × IsDeniedBy old.core m denied × (why ≡ opening_fault_is denied m.copy.lp (votes_there old.core, total_votes old.core.descriptor)))
+Opens old new m (Err why) = (new ≡ old) × ((denied : OpenFault) × IsOfOpening denied × IsDeniedBy old.core m denied × (why ≡ opening_fault_is denied m.copy.lp (votes_there old.core, total_votes old.core.descriptor)))
 
 -- how a move ends that isn't done, once turns find nothing to do
 abbrev pub HasFailed : CopyState → Type 0
@@ -107,10 +107,11 @@ ended_fault (copy.SyncFailed disk) lp = fault.SyncFailed disk
 ended_fault copy.NoFresh lp = fault.NoFresh lp
 ended_fault _ lp = fault.Busy
 
--- turns find nothing to do, and a move is open
+-- turns find nothing to do, and a move is open, which is done or has failed
 pub record MayConclude (s : State) : Type 0 where
   pub drained : IsDrained s
   pub moves : is_moving s.core ≡ true
+  pub ends : (copy_state s.core ≡ copy.Done) ⊎ HasFailed (copy_state s.core)
   pub epoch : s.core.status.stamp.epoch ≢ 0
 
 -- as the commit was answered
@@ -118,8 +119,22 @@ abbrev pub IsAnswerOf : Result (Unit {0}) CommitFault → Result (Unit {0}) Move
 IsAnswerOf (Ok done) answer = answer ≡ Ok tt
 IsAnswerOf (Err why) answer = answer ≡ Err (commit_fault_is why)
 
+-- it is done, and committed; its disk isn't missing
+pub record CommitsIt (patience left : ℕ) (old new : State) (answer : Result (Unit {0}) MoveFault) : Type 0 where
+  pub done : copy_state old.core ≡ copy.Done
+  pub how : Result (Unit {0}) CommitFault
+  pub commits : CommitsOpenMove patience left old new how
+  pub there : IfErr how (λ why. (disk : ℕ) → why ≡ commit.DiskFailed disk → ⊥)
+  pub answer_is : IsAnswerOf how answer
+
+-- it has failed for its cause, and is closed
+pub record GivesItUp (lp patience left : ℕ) (old new : State) (answer : Result (Unit {0}) MoveFault) : Type 0 where
+  pub failed : HasFailed (copy_state old.core)
+  pub caused : IsCopyCaused old
+  pub is : new ≡ state old.device (closed old.core)
+  pub same : left ≡ patience
+  pub answer_is : answer ≡ Err (ended_fault (copy_state old.core) lp)
+
 -- it is committed where it is done; else it is closed
 abbrev pub Concludes : ℕ → ℕ → ℕ → State → State → Result (Unit {0}) MoveFault → Type 0
-Concludes lp patience left old new answer =
-    ((copy_state old.core ≡ copy.Done) × ((how : Result (Unit {0}) CommitFault) × CommitsOpenMove patience left old new how × IsAnswerOf how answer))
-    ⊎ (HasFailed (copy_state old.core) × (new ≡ state old.device (closed old.core)) × (left ≡ patience) × (answer ≡ Err (ended_fault (copy_state old.core) lp)))
+Concludes lp patience left old new answer = CommitsIt patience left old new answer ⊎ GivesItUp lp patience left old new answer

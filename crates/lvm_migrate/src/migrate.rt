@@ -1,6 +1,7 @@
 //! The copies of a disk move to another one.
-ghost use Rattle.std.specs.Prelude.{◌≡◌, ◌≢◌, None, is_some, IfErr, IfOk};
+ghost use Rattle.std.specs.Prelude.{◌≡◌, ◌≢◌, ◌≤◌, None, is_some, IfErr, IfOk, length};
 ghost use Rattle.lvm_session.specs.declared.open.Power.TheVariants as power;
+ghost use Rattle.lvm_session.specs.Calls.{has_numbers};
 ghost use Rattle.lvm_session.specs.Judging.{is_missing};
 ghost use Rattle.lvm_session.specs.State.{state_of};
 ghost use Rattle.lvm_move_plan.specs.Planned.{planned_moves};
@@ -24,6 +25,13 @@ fn has_copy<S: Shelf>(driver: &Driver<S>) -> bool
         CopyState::Closed => false,
         _ => true,
     }
+}
+
+// More than 65,535 numbers are left for the stamps of records.
+fn has_numbers<S: Shelf>(driver: &Driver<S>) -> bool
+    ensures { result ≡ has_numbers driver.now.1 }
+{
+    driver.numbers_left() >= 65_536
 }
 
 // Why a session that goes on lets no copy move to the disk.
@@ -62,13 +70,14 @@ fn plan<S: Shelf>(
     to: u16,
 ) -> Result<Rows<PlannedMove>, MoveFault>
     requires may { MayMigrate driver.now.1.descriptor lv from to }
-    ensures { ArePlanned driver.now.1 lv from to result }
+    ensures planned { ArePlanned driver.now.1 lv from to result }
+    ensures few { IfOk result (λ moves. length moves ≤ 1016) }
 {
     if let Some(why) = session_refusal(driver, to) {
         return Err(why);
     }
     let moves = plan_moves(alloc, driver.descriptor(), lv, from, to)?;
-    if driver.numbers_left() < 65_536 {
+    if !has_numbers(driver) {
         return Err(MoveFault::HistoryFull);
     }
     Ok(moves)
@@ -85,15 +94,19 @@ fn move_all<S: Shelf>(
     requires epoch { driver.old.1.status.stamp.epoch ≢ 0 }
     requires none { driver.old.1.copy ≡ None }
     requires plan { IsPlanOf driver.old.1.descriptor moves.now }
+    requires few { length moves.now ≤ 1016 }
     ensures moves { MovesAll moves.now patience.old.left patience.new.left (state_of S.device driver.old) (state_of S.device driver.new) result }
+    ensures stand { StandMoved moves.now driver.old.1.descriptor driver.new.1.descriptor result }
+    ensures fresh { IfOk result (λ moved. AreFreshBut moves.now (state_of S.device driver.old) (state_of S.device driver.new)) }
+    ensures closed { IfOk result (λ moved. driver.new.1.copy ≡ None) }
+    ensures caused { IfErr result (MoveCause patience.old.left (state_of S.device driver.old) (state_of S.device driver.new)) }
     ensures beside { GoesBesideMoving (state_of S.device driver.old) (state_of S.device driver.new) patience.old.left patience.new.left }
 {
-    let mut moved = 0;
     for one in moves {
+        driver.is_sound();
         move_one(driver, alloc, *one, patience)?;
-        moved += 1;
     }
-    Ok(moved)
+    Ok(moves.len() as u32)
 }
 
 /// Moves the copies of a volume, or of all volumes, from one disk to another, beside the requests that are open: in the order of
@@ -120,9 +133,10 @@ pub fn migrate<S: Shelf>(
     ensures empty { IfOk result (λ moved. IsLeftEmpty lv from driver.new.1.descriptor) }
     ensures fresh { IfOk result (λ moved. AreFreshBut (planned_moves driver.old.1.descriptor lv from to) (state_of S.device driver.old) (state_of S.device driver.new)) }
     ensures closed { IfOk result (λ moved. driver.new.1.copy ≡ None) }
-    ensures caused { IfErr result (MoveCause patience.new.left (state_of S.device driver.old) (state_of S.device driver.new)) }
+    ensures caused { IfErr result (MoveCause patience.old.left (state_of S.device driver.old) (state_of S.device driver.new)) }
     ensures beside { GoesBesideMoving (state_of S.device driver.old) (state_of S.device driver.new) patience.old.left patience.new.left }
 {
+    driver.is_sound();
     let moves = plan(driver, alloc, lv, from, to)?;
     move_all(driver, alloc, moves.as_slice(), patience)
 }

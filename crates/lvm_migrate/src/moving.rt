@@ -1,9 +1,10 @@
 //! One copy moves.
-ghost use Rattle.std.specs.Prelude.{◌≡◌, ◌≢◌, None, IfOk};
+ghost use Rattle.std.specs.Prelude.{◌≡◌, ◌≢◌, None, IfErr, IfOk};
 ghost use Rattle.lvm_keeps_events.specs.Opening.{IsApart};
 ghost use Rattle.lvm_session.specs.declared.open.Power.TheVariants as power;
 ghost use Rattle.lvm_session.specs.State.{state_of};
-ghost use Rattle.lvm_migrate.specs.Migrating.{GoesBesideMoving};
+ghost use Rattle.lvm_going.specs.Going.{LeavesMoving};
+ghost use Rattle.lvm_migrate.specs.Migrating.{GoesBesideMoving, MoveCause};
 ghost use Rattle.lvm_moved.specs.Moved.{MayStandOn};
 ghost use Rattle.lvm_migrate.specs.Moving.{Concludes, HasFailed, MayConclude, MayOpen, MovesOne, Opens, ended_fault};
 
@@ -25,6 +26,7 @@ fn open<S: Shelf>(
     requires apart { IsApart driver.old.1.descriptor one.copy.lv one.copy.lp one.copy.number one.to }
     requires may { MayOpen driver.old.1 one }
     ensures opens { Opens (state_of S.device driver.old) (state_of S.device driver.new) one result }
+    ensures leaves { LeavesMoving (state_of S.device driver.old) (state_of S.device driver.new) }
 {
     let off = driver.votes();
     let copy = one.copy;
@@ -42,7 +44,10 @@ fn conclude<S: Shelf>(
 ) -> Result<(), MoveFault>
     requires may { MayConclude (state_of S.device driver.old) }
     ensures concludes { Concludes lp patience.old.left patience.new.left (state_of S.device driver.old) (state_of S.device driver.new) result }
+    ensures closed { driver.new.1.copy ≡ None }
+    ensures beside { GoesBesideMoving (state_of S.device driver.old) (state_of S.device driver.new) patience.old.left patience.new.left }
 {
+    driver.is_sound();
     match driver.copy_state() {
         CopyState::Done => Ok(driver.commit_move(patience)?),
         how => {
@@ -84,10 +89,13 @@ pub fn move_one<S: Shelf>(
     requires none { driver.old.1.copy ≡ None }
     requires stands { MayStandOn driver.old.1.descriptor one.copy.lv one.copy.lp one.copy.number one.to }
     ensures moves { MovesOne one patience.old.left patience.new.left (state_of S.device driver.old) (state_of S.device driver.new) result }
-    ensures none { IfOk result (λ done. driver.new.1.copy ≡ None) }
+    ensures closed { IfOk result (λ done. driver.new.1.copy ≡ None) }
+    ensures caused { IfErr result (MoveCause patience.old.left (state_of S.device driver.old) (state_of S.device driver.new)) }
     ensures beside { GoesBesideMoving (state_of S.device driver.old) (state_of S.device driver.new) patience.old.left patience.new.left }
 {
+    driver.is_sound();
     open(driver, alloc, one)?;
+    driver.is_sound();
     driver.drain(patience)?;
     conclude(driver, one.copy.lp, patience)
 }

@@ -10,12 +10,16 @@ use Rattle.lvm_num.specs.declared.place.Pp.{Pp}
 use Rattle.lvm_num.specs.declared.descriptor.PvRow.{PvRow}
 use Rattle.lvm_num.specs.declared.descriptor.LvRow.{LvRow}
 use Rattle.lvm_num.specs.declared.descriptor.Descriptor.{Descriptor}
-use Rattle.lvm_num.specs.Descriptor.{IsPartitionOf, IsValid, is_pp, member_of, partitions_in, partitions_used, volume_of}
-use Rattle.lvm_num.proofs.AmongLemmas.{filter_one, in_range, of_range}
+use Rattle.lvm_num.specs.Descriptor.{IsMember, IsPartitionOf, IsValid, is_pp, member_of, partitions_in, partitions_used, volume_of}
+use Rattle.lvm_num.proofs.AmongLemmas.{all_one, filter_one, in_range, of_range}
 use Rattle.lvm_num.proofs.Booleans.{same_turned}
-use Rattle.lvm_num.proofs.Lists.{any_as}
+use Rattle.lvm_num.proofs.Lists.{any_as, few_filter}
+use Rattle.std.proofs.lemmas.List.{length-map}
+use Rattle.std.proofs.lemmas.List.FromFn.{length-range_with_len}
 use Rattle.lvm_map.specs.FirstFit.{free_of, is_among, partitions_of}
-use Rattle.lvm_move_plan.specs.Planned.{free_on}
+use Rattle.lvm_move_plan.specs.declared.standing.VolumeCopy.{VolumeCopy}
+use Rattle.lvm_move_plan.specs.Planned.{free_on, moves_to, planned_moves}
+use Rattle.lvm_move_plan.specs.Standing.{standing_on}
 use Rattle.lvm_move_plan.specs.Laws.{IsFreeOn}
 use Rattle.lvm_move_plan.proofs.RisingLemmas.{Rises, filter_rises, one_found, range_rises}
 
@@ -107,3 +111,32 @@ is_partition d disk q it = (it.row, ap (λ (n : ℕ). member_of d n) it.there �
 -- none has it, by the one test as by the other
 pub none_has : (used : List Pp) (q : Pp) → is_among used q ≡ false → list_any (is_pp q) used ≡ false
 none_has used q free = any_as (is_pp q) (λ (p : Pp). p.disk == q.disk && p.pp == q.pp) (λ p t. same_turned q.disk p.disk t && same_turned q.pp p.pp t) used ∙ free
+
+-- so few are free
+few_of : (used : List Pp) (row : PvRow) → length (free_of used row) ≤ row.pps
+few_of used row =
+    let few = few_filter (λ pp. not (is_among used pp)) (partitions_of row) in
+    let size = length-map (range_with_len 0 row.pps) (numbered row) in
+    let all = length-range_with_len 0 row.pps in
+    omega (arith, few, size, all)
+
+pub few_on : (d : Descriptor) (disk : ℕ) → IsValid d → length (free_on d disk) ≤ 1016
+few_on d disk valid = by (member_of d disk) refl
+  where
+    by : (o : Option PvRow) → member_of d disk ≡ o → length (option_map_or (free_of (partitions_used d)) o []) ≤ 1016
+    by None is = omega arith
+    by (Some row) is =
+        let found = one_found (λ (r : PvRow). r.disk == disk) d.pvs row is in
+        let member = all_one IsMember d.pvs row valid.members.each found.0 in
+        let most = member.partitions in
+        let few = few_of (partitions_used d) row in
+        omega (arith, few, most)
+
+-- so few move
+pub few_moves : (copies : List VolumeCopy) (free : List Pp) → length (moves_to copies free) ≤ length free
+few_moves [] free = omega arith
+few_moves (c ∷ cs) [] = omega arith
+few_moves (c ∷ cs) (p ∷ ps) = let rest = few_moves cs ps in omega (arith, rest)
+
+pub few_planned : (d : Descriptor) (lv : Option ℕ) (from to : ℕ) → IsValid d → length (planned_moves d lv from to) ≤ 1016
+few_planned d lv from to valid = let few = few_on d to valid in let moves = few_moves (standing_on d lv from) (free_on d to) in omega (arith, few, moves)

@@ -35,14 +35,11 @@ apart_each pps disk none k q at same = clash (has_partition_on pps disk) (one_an
 
 none_on : (pps : List Pp) (disk : ℕ) → ((k : ℕ) (q : Pp) → slice_get pps k ≡ Some q → q.disk ≢ disk) → has_partition_on pps disk ≡ false
 none_on [] disk each = refl
-none_on (x ∷ xs) disk each = by (x.disk == disk) refl
+none_on (x ∷ xs) disk each = by (x.disk == disk) refl (none_on xs disk (λ k q at. each (suc k) q at))
   where
-    rest : has_partition_on xs disk ≡ false
-    rest = none_on xs disk (λ k q at. each (suc k) q at)
-
-    by : (b : Bool) → (x.disk == disk) ≡ b → b || has_partition_on xs disk ≡ false
-    by true is = absurd (each 0 x refl (eqb-true x.disk disk is))
-    by false is = rest
+    by : (b : Bool) → (x.disk == disk) ≡ b → has_partition_on xs disk ≡ false → b || has_partition_on xs disk ≡ false
+    by true is rest = absurd (each 0 x refl (eqb-true x.disk disk is))
+    by false is rest = rest
 
 find_none : {X : Type 0} (p : X → Bool) (xs : List X) → ((x : X) → IsOneOf xs x → p x ≡ false) → find p xs ≡ None
 find_none p [] each = refl
@@ -222,21 +219,20 @@ module _ (d : Descriptor) (lv : Option ℕ) (from to : ℕ) (valid : IsValid d) 
             let place_is : s.place ≡ c.number - 1 = (let its = s.number in omega (arith, its, number_is)) in
             let pp_is : s.pp ≡ p = it_moves old.0 s.pp (ap (volume_of d) (sym lv_is) ∙ old.1) ((λ t. slice_get (copies_of (moved old.0) (sym lp_is t)) (sym place_is t)) ∙ at) in
             absurd (differ (sym s.there ∙ ap (λ (q : Pp). q.disk) pp_is ∙ its_free.there))
-        | inr apart ↦
-            (
-              record {
-                row = old.0;
-                volume = old.1;
-                asked = sym (same_asked old.0) ∙ ap (is_asked_for lv) old.2 ∙ s.asked;
-                within = (let less = s.within in let size = same_lps old.0 in let its = ap (λ (r : LvRow). r.lps) old.2 in omega (arith, less, size, its));
-                place = s.place;
-                number = s.number;
-                pp = s.pp;
-                its = sym (others_stay x.lv old.0 x.lp s.place old.1 apart) ∙ at;
-                there = s.there;
-              },
-              is_apart x s.place s.number apart
-            )
+        | inr apart ↦ (
+          record {
+            row = old.0;
+            volume = old.1;
+            asked = sym (same_asked old.0) ∙ ap (is_asked_for lv) old.2 ∙ s.asked;
+            within = (let less = s.within in let size = same_lps old.0 in let its = ap (λ (r : LvRow). r.lps) old.2 in omega (arith, less, size, its));
+            place = s.place;
+            number = s.number;
+            pp = s.pp;
+            its = sym (others_stay x.lv old.0 x.lp s.place old.1 apart) ∙ at;
+            there = s.there;
+          },
+          is_apart x s.place s.number apart,
+        )
       ]
     where
       is_apart : (x : VolumeCopy) (k : ℕ) → x.number ≡ k + 1 → (x.lv ≢ c.lv) ⊎ ((x.lp ≢ c.lp) ⊎ (k ≢ c.number - 1)) → x ≢ c

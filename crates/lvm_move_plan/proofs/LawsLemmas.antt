@@ -82,15 +82,14 @@ each_one P [] each = All-nil P
 each_one P (x ∷ xs) each = All-cons P x xs (each x (inl refl)) (each_one P xs (λ y is. each y (inr is)))
 
 pub places_lowest : PlacesAreLowest
-places_lowest d lv from to =
-    (
-      each_one (IsLowest d to (planned_moves d lv from to)) (planned_moves d lv from to)
+places_lowest d lv from to = (
+  each_one (IsLowest d to (planned_moves d lv from to)) (planned_moves d lv from to)
       (λ m one. record {
         is_free = on_is_free d to m.to (place_of_free (standing_on d lv from) (free_on d to) m one);
         below = λ pp free less. below_taken (standing_on d lv from) (free_on d to) m pp (on_rises d to) one (free_is_on d to pp free) less;
       }),
-      rises_pairs (λ (a b : PlannedMove). a.to.pp < b.to.pp) (planned_moves d lv from to) (moves_rise (standing_on d lv from) (free_on d to) (on_rises d to))
-    )
+  rises_pairs (λ (a b : PlannedMove). a.to.pp < b.to.pp) (planned_moves d lv from to) (moves_rise (standing_on d lv from) (free_on d to) (on_rises d to)),
+)
 
 -- ---- the first of them
 

@@ -35,7 +35,7 @@ module _ (lv lp number : ℕ) (to : Pp) where
       by true = refl
       by false = refl
 
-  find_moved : (n : ℕ) (rows : List LvRow) → find (λ (r : LvRow). r.number == n) (map (moved_row lv lp number to) rows) ≡ option_map (moved_row lv lp number to) (find (λ (r : LvRow). r.number == n) rows)
+  pub find_moved : (n : ℕ) (rows : List LvRow) → find (λ (r : LvRow). r.number == n) (map (moved_row lv lp number to) rows) ≡ option_map (moved_row lv lp number to) (find (λ (r : LvRow). r.number == n) rows)
   find_moved n [] = refl
   find_moved n (x ∷ xs) = ap (λ b. if b then Some (moved_row lv lp number to x) else find (λ (r : LvRow). r.number == n) (map (moved_row lv lp number to) xs)) (same_test n x) ∙ by (x.number == n) (find_moved n xs)
     where
@@ -45,13 +45,13 @@ module _ (lv lp number : ℕ) (to : Pp) where
       by true rest = refl
       by false rest = rest
 
-  row_as : (row : LvRow) → row.number ≢ lv → moved_row lv lp number to row ≡ row
+  pub row_as : (row : LvRow) → row.number ≢ lv → moved_row lv lp number to row ≡ row
   row_as row other = elim (cases_Bool (row.number == lv)) [
     | inl is ↦ absurd (other (eqb-true row.number lv is))
     | inr isnt ↦ ap (λ b. if b then with_copy_on row lp number to else row) isnt
   ]
 
-  row_with : (row : LvRow) → row.number ≡ lv → moved_row lv lp number to row ≡ with_copy_on row lp number to
+  pub row_with : (row : LvRow) → row.number ≡ lv → moved_row lv lp number to row ≡ with_copy_on row lp number to
   row_with row is = ap (λ b. if b then with_copy_on row lp number to else row) (eq-eqb row.number lv is)
 
 -- its copies: the one has moved, and the others stand where they stood

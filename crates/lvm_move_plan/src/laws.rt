@@ -1,5 +1,6 @@
 //! Laws of moves that are planned. Each call does nothing: its contract is the law.
 ghost use Rattle.lvm_move_plan.specs.Laws.{EachMoves, NoneIsLeft, PlacesAreLowest, PlansEmptyDisks, PlansGoOn, StandingAreListed, StandingRise};
+ghost use Rattle.lvm_move_plan.specs.Worked.{PlansAreAsWorked};
 
 /// The copies that stand on a disk, and no others, are listed, each once, in the order of volumes, logical partitions and
 /// copies.
@@ -24,4 +25,9 @@ pub fn plans_go_on()
 /// Once all moves are made the group is valid, and no copy that is asked for stands on the first disk.
 pub fn plan_empties()
     ensures { PlansEmptyDisks }
+{}
+
+/// The plans of a volume that is mirrored on two of three disks are as worked out by hand.
+pub fn plans_are_as_worked()
+    ensures { PlansAreAsWorked }
 {}

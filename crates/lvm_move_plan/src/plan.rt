@@ -55,6 +55,7 @@ pub fn plan_moves(
     requires { IsValid d.now }
     ensures planned { IfOk result (λ moves. moves ≡ planned_moves d.now lv from to) }
     ensures may { IfOk result (λ moves. plan_refusal d.now lv from to ≡ None) }
+    ensures few { IfOk result (λ moves. length moves ≤ 1016) }
     ensures fault { IfErr result (IsPlanFault d.now lv from to) }
 {
     let copies = standing_on(alloc, d, lv, from)?;
