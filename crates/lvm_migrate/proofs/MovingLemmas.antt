@@ -99,17 +99,17 @@ module _ (old new : State) (m : PlannedMove) where
 -- ---- the one that is open
 
 module _ (old mid : State) (m : PlannedMove) (opens : Opens old mid m (Ok tt)) where
-  made : OpensMove (counts_seen old.device old.core) old.core mid.core m.copy.lv m.copy.lp m.copy.number m.to
-  made = (opened_fine (counts_seen old.device old.core) old.core mid.core m opens.1).1
+  pub opened_so : OpensMove (counts_seen old.device old.core) old.core mid.core m.copy.lv m.copy.lp m.copy.number m.to
+  opened_so = (opened_fine (counts_seen old.device old.core) old.core mid.core m opens.1).1
 
   abbrev pub begun : OpenCopy
-  begun = opened true m.to m.copy.lv m.copy.lp m.copy.number made.tried (faults_of (counts_seen old.device old.core) (copies_of made.row m.copy.lp) m.to) (step_place old.core)
+  begun = opened true m.to m.copy.lv m.copy.lp m.copy.number opened_so.tried (faults_of (counts_seen old.device old.core) (copies_of opened_so.row m.copy.lp) m.to) (step_place old.core)
 
   pub just : IsOpenMove begun mid.core
-  just = record { copy = begun; is_open = ap (λ (c : Core). c.copy) made.is; its = (refl, refl, refl, refl, refl, refl); goes = λ e. cc e }
+  just = record { copy = begun; is_open = ap (λ (c : Core). c.copy) opened_so.is; its = (refl, refl, refl, refl, refl, refl); goes = λ e. cc e }
 
   pub still_unstuck : (old.core.power ≡ power.Stuck → ⊥) → mid.core.power ≡ power.Stuck → ⊥
-  still_unstuck unstuck stuck = unstuck (sym (ap (λ (c : Core). c.power) made.is) ∙ stuck)
+  still_unstuck unstuck stuck = unstuck (sym (ap (λ (c : Core). c.power) opened_so.is) ∙ stuck)
 
   module _ (new : State) (turns : Path IsTurn IsAny mid new) where
     pub turns_end : (patience left : ℕ) (how : Result (Unit {0}) CommitFault) → DrainEnds left new how → DrainCosts patience left mid new how → TurnsEnd m patience left old new how
