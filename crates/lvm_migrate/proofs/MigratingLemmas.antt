@@ -12,12 +12,15 @@ use Rattle.lvm_num.specs.Descriptor.{IsValid, is_member, member_of}
 use Rattle.lvm_num.proofs.Lists.{found_any}
 use Rattle.lvm_disk.specs.Counts.{Rose}
 use Rattle.lvm_moved.specs.Moved.{MayStandOn}
+use Rattle.lvm_num.specs.Votes.{total_votes}
+use Rattle.lvm_session.specs.declared.bringing.OpenCopy.{OpenCopy}
+use Rattle.lvm_session.specs.declared.open.Power.{Power}
 use Rattle.lvm_session.specs.declared.open.Power.TheVariants as power
 use Rattle.lvm_session.specs.Calls.{has_numbers}
 use Rattle.lvm_session.specs.Causes.{is_held_stale}
 use Rattle.lvm_session.specs.Judging.{is_missing, is_stale, is_wanted_stale}
 use Rattle.lvm_session.specs.Sound.{IsSound}
-use Rattle.lvm_session.specs.State.{Core, State}
+use Rattle.lvm_session.specs.State.{Core, State, votes_there}
 use Rattle.lvm_going.specs.Going.{BeginsMove}
 use Rattle.lvm_going.proofs.GoingLemmas.{moving_keeps}
 use Rattle.lvm_driver.specs.Drains.{IsDrained}
@@ -30,7 +33,7 @@ use Rattle.lvm_move_plan.proofs.LawsLemmas.{empty_disks, places_lowest}
 use Rattle.lvm_migrate.specs.declared.fault.MoveFault.{MoveFault}
 use Rattle.lvm_migrate.specs.declared.fault.MoveFault.TheVariants as fault
 use Rattle.lvm_migrate.specs.Faults.{plan_fault_is}
-use Rattle.lvm_migrate.specs.Migrating.{AreFreshBut, ArePlanned, GoesBesideMoving, HaveMoved, IsLeftEmpty, IsPlanOf, IsRefused, LacksMemory, MigrateGives, Migrates, MoveCause, MovesAll, NoneMoved, OneMoved, Plans, SomeStandMoved, StandMoved, StandsAgainst, StopsAmong, WantsMemory, further_refusal, migrate_refusal, session_refusal}
+use Rattle.lvm_migrate.specs.Migrating.{AreFreshBut, ArePlanned, GoesBesideMoving, HaveMoved, IsLeftEmpty, IsPlanOf, IsRefused, LacksMemory, MigrateGives, Migrates, MoveCause, MovesAll, NoneMoved, OneMoved, Plans, SomeStandMoved, StandMoved, StandsAgainst, StopsAmong, WantsMemory, busy_or_missing, further_refusal, migrate_refusal, refusal_by, session_refusal}
 use Rattle.lvm_migrate.specs.Moving.{CommitGives, Opens, StopsAt}
 use Rattle.lvm_migrate.proofs.BesideLemmas.{beside_both, beside_none, turns_sound}
 use Rattle.lvm_migrate.proofs.CausesLemmas.{IsLater, cause_since, later_both, later_moved, later_same, turns_group}
@@ -272,3 +275,132 @@ module _ (first now : State) (patience left : ℕ) (moves : List PlannedMove) (k
 -- where it ends those before the last have moved
 pub some_stand : (first new : State) (moves : List PlannedMove) (patience left : ℕ) (why : MoveFault) (it : StopsAmong moves patience left first new why) → new.core.descriptor ≡ it.mid.core.descriptor → SomeStandMoved moves first.core.descriptor new.core.descriptor
 some_stand first new moves patience left why it same = record { moved = it.moved; rest = it.one ∷ it.rest; all = it.all; is = same ∙ moved_stand it.have }
+
+-- ---- what is asked for
+
+-- nothing stands against it
+pub record MayBegin (core : Core) (lv : Option ℕ) (from to : ℕ) : Type 0 where
+  pub shut : core.copy ≡ None
+  pub there : is_missing core to ≡ false
+  pub fine : plan_refusal core.descriptor lv from to ≡ None
+
+-- why it is refused at once
+module _ (s : State) (lv : Option ℕ) (from to patience : ℕ) where
+  abbrev Cause : MoveFault → Type 0
+  Cause = MoveCause patience s s
+
+  so : (u why : MoveFault) → Some u ≡ Some why → Cause u → Cause why
+  so u why is cause = let same : u ≡ why = cc is in subst Cause same cause
+
+  further_cause : (why : MoveFault) → further_refusal s.core lv from to ≡ Some why → Cause why
+  further_cause why e = by (plan_refusal s.core.descriptor lv from to) (has_numbers s.core) refl e
+    where
+      planned : (w : PlanFault) → Cause (plan_fault_is w)
+      planned (plan.Strict lp) = tt
+      planned (plan.NoRoom free) = tt
+      planned plan.Memory = tt
+
+      by : (o : Option PlanFault) (h : Bool) → has_numbers s.core ≡ h → option_map_or (λ (w : PlanFault). Some (plan_fault_is w)) o (if h then None else Some fault.HistoryFull) ≡ Some why → Cause why
+      by (Some w) h is f = so (plan_fault_is w) why f (planned w)
+      by None true is f = absurd (cc f)
+      by None false is f = so fault.HistoryFull why f is
+
+  session_cause : (why : MoveFault) → session_refusal s.core to ≡ Some why → Cause why
+  session_cause why e = by s.core.power refl e
+    where
+      on : busy_or_missing s.core to ≡ Some why → Cause why
+      on f = at (is_some s.core.copy) (is_missing s.core to) refl f
+        where
+          at : (a b : Bool) → is_missing s.core to ≡ b → (if a then Some fault.Busy else if b then Some (fault.Missing to) else None) ≡ Some why → Cause why
+          at true b is g = so fault.Busy why g tt
+          at false true is g = so (fault.Missing to) why g is
+          at false false is g = absurd (cc g)
+
+      by : (p : Power) → s.core.power ≡ p → refusal_by p s.core (busy_or_missing s.core to) ≡ Some why → Cause why
+      by power.Dark is f = so fault.Dark why f is
+      by power.Off is f = so (fault.WentOff (votes_there s.core) (total_votes s.core.descriptor)) why f (is, refl, refl)
+      by power.Stuck is f = on f
+      by power.On is f = on f
+
+  pub refusal_cause : (why : MoveFault) → migrate_refusal s.core lv from to ≡ Some why → Cause why
+  refusal_cause why e = by (session_refusal s.core to) refl e
+    where
+      by : (o : Option MoveFault) → session_refusal s.core to ≡ o → option_map_or (λ (w : MoveFault). Some w) o (further_refusal s.core lv from to) ≡ Some why → Cause why
+      by None is f = further_cause why f
+      by (Some w) is f = so w why f (session_cause w is)
+
+module _ (core : Core) (lv : Option ℕ) (from to : ℕ) (none : migrate_refusal core lv from to ≡ None) where
+  session_none : session_refusal core to ≡ None
+  session_none = by (session_refusal core to) none
+    where
+      by : (o : Option MoveFault) → option_map_or (λ (w : MoveFault). Some w) o (further_refusal core lv from to) ≡ None → o ≡ None
+      by None e = refl
+      by (Some w) e = absurd (cc e)
+
+  further_none : further_refusal core lv from to ≡ None
+  further_none = sym (ap (λ (o : Option MoveFault). option_map_or (λ (w : MoveFault). Some w) o (further_refusal core lv from to)) session_none) ∙ none
+
+  plan_none : plan_refusal core.descriptor lv from to ≡ None
+  plan_none = by (plan_refusal core.descriptor lv from to) further_none
+    where
+      by : (o : Option PlanFault) → option_map_or (λ (w : PlanFault). Some (plan_fault_is w)) o (if has_numbers core then None else Some fault.HistoryFull) ≡ None → o ≡ None
+      by None e = refl
+      by (Some w) e = absurd (cc e)
+
+  busy_none : busy_or_missing core to ≡ None
+  busy_none = by core.power session_none
+    where
+      by : (p : Power) → refusal_by p core (busy_or_missing core to) ≡ None → busy_or_missing core to ≡ None
+      by power.Dark e = absurd (cc e)
+      by power.Off e = absurd (cc e)
+      by power.Stuck e = e
+      by power.On e = e
+
+  pub may_begin : MayBegin core lv from to
+  may_begin = by core.copy (is_missing core to) refl refl busy_none
+    where
+      by : (o : Option OpenCopy) (b : Bool) → core.copy ≡ o → is_missing core to ≡ b → (if is_some o then Some fault.Busy else if b then Some (fault.Missing to) else None) ≡ None → MayBegin core lv from to
+      by (Some c) b shut there e = absurd (cc e)
+      by None true shut there e = absurd (cc e)
+      by None false shut there e = record { shut = shut; there = there; fine = plan_none }
+
+pub plan_of : (d : Descriptor) (lv : Option ℕ) (from to : ℕ) → from ≢ to → plan_refusal d lv from to ≡ None → IsPlanOf d (planned_moves d lv from to)
+plan_of d lv from to differ fine = record { lv = lv; from = from; to = to; differ = differ; fine = fine; is = refl }
+
+pub all_there : (core : Core) (lv : Option ℕ) (from to : ℕ) → is_missing core to ≡ false → All (λ (m : PlannedMove). is_missing core m.to.disk ≡ false) (planned_moves core.descriptor lv from to)
+all_there core lv from to there k d lt =
+    let free = ((places_lowest core.descriptor lv from to).0 k d lt).is_free in
+    ap (λ (n : ℕ). is_missing core n) free.there ∙ there
+
+-- ---- what is answered
+
+-- none is begun
+module _ (s : State) (lv : Option ℕ) (from to patience : ℕ) (why : MoveFault) (planned : ArePlanned s.core lv from to (Err why)) where
+  pub refused_gives : MigrateGives lv from to patience patience s s (Err why)
+  refused_gives = by planned
+    where
+      by : ArePlanned s.core lv from to (Err why) → MigrateGives lv from to patience patience s s (Err why)
+      by (Plans none is) = absurd (let e : Err why ≡ Ok (planned_moves s.core.descriptor lv from to) = is in cc e)
+      by (StandsAgainst other against is) = IsRefused other against (let e : Err why ≡ Err other = is in (let same : why ≡ other = cc e in ap (λ (w : MoveFault). Err w) same), refl, refl)
+      by (WantsMemory fine is) = LacksMemory fine (let e : Err why ≡ Err fault.Memory = is in (let same : why ≡ fault.Memory = cc e in ap (λ (w : MoveFault). Err w) same), refl, refl)
+
+  pub refused_cause : MoveCause patience s s why
+  refused_cause = by planned
+    where
+      by : ArePlanned s.core lv from to (Err why) → MoveCause patience s s why
+      by (Plans none is) = absurd (let e : Err why ≡ Ok (planned_moves s.core.descriptor lv from to) = is in cc e)
+      by (StandsAgainst other against is) = let same : why ≡ other = cc is in subst (MoveCause patience s s) (sym same) (refusal_cause s lv from to patience other against)
+      by (WantsMemory fine is) = let same : why ≡ fault.Memory = cc is in subst (MoveCause patience s s) (sym same) tt
+
+pub refused_stand : (moves : List PlannedMove) (d : Descriptor) → SomeStandMoved moves d d
+refused_stand moves d = record { moved = []; rest = moves; all = refl; is = refl }
+
+-- they are planned
+pub planned_so : (core : Core) (lv : Option ℕ) (from to : ℕ) (moves : List PlannedMove) → ArePlanned core lv from to (Ok moves) → (migrate_refusal core lv from to ≡ None) × (moves ≡ planned_moves core.descriptor lv from to)
+planned_so core lv from to moves (Plans none is) = let e : Ok moves ≡ Ok (planned_moves core.descriptor lv from to) = is in let same : moves ≡ planned_moves core.descriptor lv from to = cc e in (none, same)
+planned_so core lv from to moves (StandsAgainst why against is) = absurd (let e : Ok moves ≡ Err why = is in cc e)
+planned_so core lv from to moves (WantsMemory fine is) = absurd (let e : Ok moves ≡ Err fault.Memory = is in cc e)
+
+-- once all have moved no copy that was asked for stands there
+pub left_empty : (d new : Descriptor) (lv : Option ℕ) (from to : ℕ) → IsValid d → from ≢ to → plan_refusal d lv from to ≡ None → new ≡ after_moves d (planned_moves d lv from to) → IsLeftEmpty lv from new
+left_empty d new lv from to valid differ fine is = subst (IsLeftEmpty lv from) (sym is) (empty_disks d lv from to valid differ fine).1

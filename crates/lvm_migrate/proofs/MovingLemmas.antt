@@ -221,3 +221,33 @@ not_opened m patience left old new why stays opens = subst (StopsAt m patience l
     by denial.NoVolume is of = absurd of
     by denial.OutOfRange is of = absurd of
     by denial.InUse is of = absurd of
+
+-- ---- what becomes of it
+
+-- it doesn't run
+pub no_run : (s : State) → (copy_state s.core ≡ copy.Done) ⊎ HasFailed (copy_state s.core) → (cursor : ℕ) → copy_state s.core ≡ copy.Running cursor → ⊥
+no_run s (inl done) cursor runs = absurd (let e : copy.Done ≡ copy.Running cursor = sym done ∙ runs in cc e)
+no_run s (inr failed) cursor runs = absurd (subst HasFailed runs failed)
+
+pub failed_of : (s : State) (how : CopyState) → how ≡ copy_state s.core → (copy_state s.core ≡ copy.Done) ⊎ HasFailed (copy_state s.core) → (how ≡ copy.Done → ⊥) → HasFailed how
+failed_of s how is (inl done) other = absurd (other (is ∙ done))
+failed_of s how is (inr failed) other = subst HasFailed (sym is) failed
+
+module _ (lp patience left : ℕ) (old new : State) where
+  pub commits_well : copy_state old.core ≡ copy.Done → CommitsOpenMove patience left old new (Ok tt) → Concludes lp patience left old new (Ok tt)
+  commits_well done commits = inl (record { done = done; how = Ok tt; commits = commits; there = tt; answer_is = refl })
+
+  pub commits_not : (why : CommitFault) → copy_state old.core ≡ copy.Done → CommitsOpenMove patience left old new (Err why) → ((disk : ℕ) → why ≡ commit.DiskFailed disk → ⊥) → Concludes lp patience left old new (Err (commit_fault_is why))
+  commits_not why done commits there = inl (record { done = done; how = Err why; commits = commits; there = there; answer_is = refl })
+
+  pub gives_up : (how : CopyState) → how ≡ copy_state old.core → HasFailed how → IsCopyCaused old → new ≡ state old.device (closed old.core) → left ≡ patience → Concludes lp patience left old new (Err (ended_fault how lp))
+  gives_up how is failed caused closes same = inr (record {
+    failed = subst HasFailed is failed;
+    caused = caused;
+    is = closes;
+    same = same;
+    answer_is = ap (λ (h : CopyState). Err (ended_fault h lp)) is;
+  })
+
+pub closed_state : {S : Type 0} (device : S → Device) (old new : S × Core) → new.0 ≡ old.0 → new.1 ≡ closed old.1 → state (device new.0) new.1 ≡ state (device old.0) (closed old.1)
+closed_state device old new shelf core = ap (λ (d : Device). state d new.1) (ap device shelf) ∙ ap (λ (x : Core). state (device old.0) x) core

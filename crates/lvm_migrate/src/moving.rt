@@ -45,7 +45,6 @@ fn conclude<S: Shelf>(
     requires may { MayConclude (state_of S.device driver.old) }
     ensures concludes { Concludes lp patience.old.left patience.new.left (state_of S.device driver.old) (state_of S.device driver.new) result }
     ensures closed { driver.new.1.copy ≡ None }
-    ensures stays { IfErr result (λ why. driver.new.1.descriptor ≡ driver.old.1.descriptor) }
     ensures beside { GoesBesideMoving (state_of S.device driver.old) (state_of S.device driver.new) patience.old.left patience.new.left }
 {
     driver.is_sound();
@@ -99,5 +98,6 @@ pub fn move_one<S: Shelf>(
     open(driver, alloc, one)?;
     driver.is_sound();
     driver.drain(patience)?;
+    driver.is_sound();
     conclude(driver, one.copy.lp, patience)
 }
