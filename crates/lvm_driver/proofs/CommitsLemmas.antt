@@ -71,7 +71,7 @@ drained_move s next sound drained moves done epoch ready =
     its : IsMovingCopy s.core
     its = moving_copy s.core moves
 
-    abbrev c : OpenCopy
+    c : OpenCopy
     c = its.copy
 
     copy : IsCopy s.core c

@@ -16,8 +16,8 @@ pub fn each_mode_begins()
 
 /// The second copy of its volume may begin to move to the third disk, and once it has moved that may be committed.
 pub fn mirrors_may_move()
-    ensures move { MirrorsMayMove }
-    ensures commit { MirrorsMayCommit }
+    ensures begins { MirrorsMayMove }
+    ensures commits { MirrorsMayCommit }
 {}
 
 /// Once turns find nothing to do, a copy that is open doesn't run: it has ended, or it is a move that is done.
