@@ -120,11 +120,11 @@ turns_there first disk {last = last} sound (Then {m = mid} path turn there) it =
 
 pub turns_clean : {P : State → Type 0} (first : State) (begun : OpenCopy) (p : Pp) {old last : State} → IsSound old → IsOpenMove begun old.core → p ≢ begun.pp → Path IsTurn P old last → last.core.power ≡ power.On
     → IsCleanSince first old p → IsCleanSince first last p × IsSound last
-turns_clean first begun p sound open other (Here here) on it = (it, sound)
-turns_clean first begun p {last = last} sound open other (Then {m = mid} path turn there) on it =
+turns_clean first begun p sound opens other (Here here) on it = (it, sound)
+turns_clean first begun p {last = last} sound opens other (Then {m = mid} path turn there) on it =
     let before_on = turn_on mid last turn.0 turn.1 on in
-    let before = turns_clean first begun p sound open other path before_on it in
-    (turn_clean first mid last turn.0 before.1 turn.1 p (apart_of begun mid.core p (turns_open begun open path before_on) other) before.0, turn_keeps mid last turn.0 before.1 turn.1)
+    let before = turns_clean first begun p sound opens other path before_on it in
+    (turn_clean first mid last turn.0 before.1 turn.1 p (apart_of begun mid.core p (turns_open begun opens path before_on) other) before.0, turn_keeps mid last turn.0 before.1 turn.1)
 
 -- ---- it is opened
 
@@ -262,7 +262,7 @@ module _ (first old new : State) (before after : ℕ) (it : CommitsOpenMove befo
           of false held any = sym (ap (λ b. b || is_wanted_stale core_now p) held) ∙ any
 
       absent_gone : IsFalse (members_there last.group last.wanted p.disk) → calls_missing last.wanted p.disk ≡ true
-      absent_gone absent = second_with_first (is_member old.core.descriptor p.disk) (calls_missing last.wanted p.disk) (ap (λ b. b && not (calls_missing last.wanted p.disk)) (sym members_are) ∙ absent) member
+      absent_gone absent = second_with_first (is_member old.core.descriptor p.disk) (calls_missing last.wanted p.disk) member (ap (λ b. b && not (calls_missing last.wanted p.disk)) (sym members_are) ∙ absent)
         where
           members_are : is_member last.group p.disk ≡ is_member old.core.descriptor p.disk
           members_are = ap (λ (g : Descriptor). is_member g p.disk) (well.w.leaves.loses.group ∙ sound.fitting.group)

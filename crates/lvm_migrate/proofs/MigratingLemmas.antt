@@ -379,10 +379,14 @@ module _ (s : State) (lv : Option ℕ) (from to patience : ℕ) (why : MoveFault
   pub refused_gives : MigrateGives lv from to patience patience s s (Err why)
   refused_gives = by planned
     where
+      -- the one answer as the other
+      answered : {u : MoveFault} → ◌≡◌ {A = Result (List PlannedMove) MoveFault} (Err why) (Err u) → ◌≡◌ {A = Result ℕ MoveFault} (Err why) (Err u)
+      answered {u} is = let same : why ≡ u = cc is in ap (λ (w : MoveFault). let r : Result ℕ MoveFault = Err w in r) same
+
       by : ArePlanned s.core lv from to (Err why) → MigrateGives lv from to patience patience s s (Err why)
       by (Plans none is) = absurd (let e : Err why ≡ Ok (planned_moves s.core.descriptor lv from to) = is in cc e)
-      by (StandsAgainst other against is) = IsRefused other against (let e : Err why ≡ Err other = is in (let same : why ≡ other = cc e in ap (λ (w : MoveFault). Err w) same), refl, refl)
-      by (WantsMemory fine is) = LacksMemory fine (let e : Err why ≡ Err fault.Memory = is in (let same : why ≡ fault.Memory = cc e in ap (λ (w : MoveFault). Err w) same), refl, refl)
+      by (StandsAgainst other against is) = IsRefused other against (answered is, refl, refl)
+      by (WantsMemory fine is) = LacksMemory fine (answered is, refl, refl)
 
   pub refused_cause : MoveCause patience s s why
   refused_cause = by planned
@@ -397,10 +401,14 @@ refused_stand moves d = record { moved = []; rest = moves; all = refl; is = refl
 
 -- they are planned
 pub planned_so : (core : Core) (lv : Option ℕ) (from to : ℕ) (moves : List PlannedMove) → ArePlanned core lv from to (Ok moves) → (migrate_refusal core lv from to ≡ None) × (moves ≡ planned_moves core.descriptor lv from to)
-planned_so core lv from to moves (Plans none is) = let e : Ok moves ≡ Ok (planned_moves core.descriptor lv from to) = is in let same : moves ≡ planned_moves core.descriptor lv from to = cc e in (none, same)
+planned_so core lv from to moves (Plans none is) = let same : moves ≡ planned_moves core.descriptor lv from to = cc is in (none, same)
 planned_so core lv from to moves (StandsAgainst why against is) = absurd (let e : Ok moves ≡ Err why = is in cc e)
 planned_so core lv from to moves (WantsMemory fine is) = absurd (let e : Ok moves ≡ Err fault.Memory = is in cc e)
 
 -- once all have moved no copy that was asked for stands there
 pub left_empty : (d new : Descriptor) (lv : Option ℕ) (from to : ℕ) → IsValid d → from ≢ to → plan_refusal d lv from to ≡ None → new ≡ after_moves d (planned_moves d lv from to) → IsLeftEmpty lv from new
 left_empty d new lv from to valid differ fine is = subst (IsLeftEmpty lv from) (sym is) (empty_disks d lv from to valid differ fine).1
+
+pub if_left_empty : (d new : Descriptor) (lv : Option ℕ) (from to : ℕ) (answer : Result ℕ MoveFault) → IsValid d → from ≢ to → plan_refusal d lv from to ≡ None → StandMoved (planned_moves d lv from to) d new answer → IfOk answer (λ moved. IsLeftEmpty lv from new)
+if_left_empty d new lv from to (Ok moved) valid differ fine is = left_empty d new lv from to valid differ fine is
+if_left_empty d new lv from to (Err why) valid differ fine is = tt
