@@ -6,9 +6,11 @@ use Rattle.lvm_session.specs.State.{State, state_of}
 use Rattle.lvm_move_plan.specs.declared.plan.PlannedMove.{PlannedMove}
 use Rattle.lvm_move_plan.specs.Planned.{planned_moves}
 use Rattle.lvm_migrate.specs.Migrating.{AreFreshBut, IsPlanOf, Migrates, MovesAll, StandMoved}
+use Rattle.lvm_migrate.specs.Committed.{MovesAsPlanned}
+use Rattle.lvm_migrate.proofs.WayLemmas.{going_none, shut_err}
 use Rattle.lvm_migrate.proofs.BesideLemmas.{beside_none}
 use Rattle.lvm_migrate.proofs.MigratingLemmas.{all_there, if_left_empty, may_begin, plan_of, planned_so, refused_cause, refused_gives, refused_stand}
-use Rattle.lvm_migrate.proofs.migrate.migrate.Goals as goal
+use Rattle.lvm_migrate.proofs.migrating.migrate.Goals as goal
 
 pub returns-in_err-moves : goal.returns-in_err-moves
 returns-in_err-moves g c =
@@ -21,7 +23,8 @@ returns-in_err-moves g c =
       stand = refused_stand _ _;
       empty = tt;
       fresh = tt;
-      closed = tt;
+      closed = λ shut. shut_err c.args.driver.now.1 why (λ on. shut) c.requires.unstuck;
+      way = going_none _ s;
       caused = refused_cause s c.args.lv c.args.from c.args.to c.args.patience.now.left why c.in_err-moves.ensures.planned;
       beside = beside_none s c.args.patience.now.left;
     })
@@ -33,7 +36,7 @@ move_all-requires g c =
     let may = may_begin core c.args.lv c.args.from c.args.to its.0 in
     let same = sym (c.as_slice.ensures ∙ its.1) in
     record {
-      unstuck = c.requires.unstuck;
+      on = may.on c.requires.unstuck;
       epoch = c.requires.epoch;
       none = may.shut;
       plan = subst (IsPlanOf core.descriptor) same (plan_of core.descriptor c.args.lv c.args.from c.args.to c.requires.may.differ may.fine);
@@ -60,7 +63,8 @@ returns g c =
       stand = stand;
       empty = if_left_empty core.descriptor new.core.descriptor c.args.lv c.args.from c.args.to answer c.is_sound.ensures.fitting.valid c.requires.may.differ may.fine stand;
       fresh = subst (λ (l : List PlannedMove). IfOk answer (λ moved. AreFreshBut l old new)) same c.move_all.ensures.fresh;
-      closed = c.move_all.ensures.closed;
+      closed = λ shut. c.move_all.ensures.closed;
+      way = subst (λ (l : List PlannedMove). MovesAsPlanned l old new) same c.move_all.ensures.way;
       caused = c.move_all.ensures.caused;
       beside = c.move_all.ensures.beside;
     }

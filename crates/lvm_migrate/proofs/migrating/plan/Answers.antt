@@ -2,7 +2,7 @@ use Rattle.std.proofs.Common.{false, true, refl, sym, ap, ◌∙◌}
 use Rattle.std.proofs.lemmas.Result.{err_from_is_err_and}
 use Rattle.lvm_migrate.specs.Migrating.{StandsAgainst}
 use Rattle.lvm_migrate.proofs.MigratingLemmas.{plan_fails, plan_short, plan_stands, refused_by}
-use Rattle.lvm_migrate.proofs.migrate.plan.Goals as goal
+use Rattle.lvm_migrate.proofs.migrating.plan.Goals as goal
 
 pub returns-in-Some-clause-planned : goal.returns-in-Some-clause-planned
 returns-in-Some-clause-planned g c = StandsAgainst c.in-Some.why (refused_by c.args.driver.now.1 c.args.lv c.args.from c.args.to c.in-Some.why (sym c.session_refusal.ensures ∙ c.in-Some.is)) refl
