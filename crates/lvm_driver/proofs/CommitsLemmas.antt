@@ -1,6 +1,6 @@
 -- A move that is done is committed, once turns find nothing to do.
 use Rattle.std.proofs.Common.{◌≡◌, ◌≢◌, ℕ, Bool, true, false, List, length, length-set, Option, None, Some, if◌then◌else◌, refl, sym, ap, subst, ◌∙◌}
-use Rattle.std.specs.Prelude.{Err, IfErr, IfSome, Ok, Result, slice_set}
+use Rattle.std.specs.Prelude.{Err, IfErr, IfSome, Ok, Result}
 use Rattle.std.specs.Option.{option_map_or}
 use Rattle.lvm_num.specs.declared.descriptor.Descriptor.{Descriptor}
 use Rattle.lvm_num.specs.Descriptor.{IsValid}
@@ -18,7 +18,7 @@ use Rattle.lvm_session.specs.Bringing.{with_back}
 use Rattle.lvm_session.specs.Calls.{copy_state}
 use Rattle.lvm_session.specs.Dark.{hand_of_copy, with_hands}
 use Rattle.lvm_session.specs.Fields.{core_of}
-use Rattle.lvm_session.specs.Rooms.{HasRooms, SameRooms}
+use Rattle.lvm_session.specs.Rooms.{SameRooms}
 use Rattle.lvm_session.specs.Sound.{IsCopy, IsSound}
 use Rattle.lvm_session.specs.State.{Core, State, state}
 use Rattle.lvm_core.specs.Committing.{with_one_out}

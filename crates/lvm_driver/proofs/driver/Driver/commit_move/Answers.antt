@@ -1,7 +1,6 @@
 use Rattle.std.proofs.Common.{◌≡◌, ◌≢◌, true, sym, subst, ◌∙◌}
 use Rattle.lvm_session.specs.declared.answers.CopyState.TheVariants as stage
 use Rattle.lvm_session.specs.Calls.{copy_state}
-use Rattle.lvm_session.specs.Fields.{core_of}
 use Rattle.lvm_session.specs.State.{Core, state_of}
 use Rattle.lvm_going.specs.Frames.{is_moving}
 use Rattle.lvm_driver.specs.Drains.{IsDrained}
