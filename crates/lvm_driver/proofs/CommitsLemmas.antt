@@ -6,7 +6,7 @@ use Rattle.lvm_num.specs.declared.descriptor.Descriptor.{Descriptor}
 use Rattle.lvm_num.specs.Descriptor.{IsValid}
 use Rattle.lvm_num.specs.DescriptorBytes.{descriptor_bytes}
 use Rattle.lvm_moved.specs.Moved.{moved_descriptor}
-use Rattle.lvm_disk.specs.Device.{Device}
+use Rattle.lvm_disk.specs.Device.{Device, HasSectors}
 use Rattle.lvm_commit.specs.declared.commit.CommitEnd.{CommitEnd}
 use Rattle.lvm_commit.specs.declared.commit.CommitEnd.TheVariants as commit_end
 use Rattle.lvm_commit.specs.Settling.{IsContentOf}
@@ -155,13 +155,14 @@ none_open (Err (fault.DiskFailed disk)) core = refl
 
 -- it is committed from the bytes with which it is ready
 pub opens_commit : (before after : ℕ) (old written : State) (new : Core) (answer : Result (Unit {0}) CommitFault) (next d : Descriptor) (content : List ℕ) → next_of old.core ≡ Some next → d ≡ next → content ≡ descriptor_bytes next
-    → CommitsMove d content before after old written answer → new ≡ closed_after answer written.core → CommitsOpenMove before after old (state written.device new) answer
-opens_commit before after old written new answer next d content ready same bytes does closed = record {
+    → CommitsMove d content before after old written answer → new ≡ closed_after answer written.core → HasSectors written.device → CommitsOpenMove before after old (state written.device new) answer
+opens_commit before after old written new answer next d content ready same bytes does closed sectors = record {
   next = next;
   ready = ready;
   written = written;
   commits = subst (λ (xs : List ℕ). CommitsMove next xs before after old written answer) bytes (subst (λ (x : Descriptor). CommitsMove x content before after old written answer) same does);
   is = ap (state written.device) closed;
+  sectors = sectors;
 }
 
 -- ---- the parts of a driver then

@@ -21,3 +21,4 @@ returns-clause-commits g c =
     let wrote = c.commit_move-answer in
     opens_commit c.args.patience.now.left wrote.new.patience.left (state (device c.args.shelf.now) (core_of c.args.session.now)) (state (device wrote.new.shelf) (core_of wrote.new.session)) (core_of c.close_after.new.session) wrote.result c.args.next c.into_parts-next.result.0 c.as_slice.result.now
     c.requires.ready.ready c.into_parts-next.ensures.descriptor (c.as_slice.ensures ∙ c.into_parts-next.ensures.bytes) wrote.ensures.does c.close_after.ensures.is
+    (g.met.S.Shelf.sectors_are_whole wrote.new.shelf)
