@@ -104,7 +104,7 @@ module _ (first old new : State) (answer : Turned) (sound : IsSound old) (made :
 -- ---- turns beside a move to another place
 
 apart_of : (begun : OpenCopy) (core : Core) (p : Pp) → IsOpenMove begun core → p ≢ begun.pp → is_destination core p ≡ false
-apart_of begun core p it other =
+apart_of begun now p it other =
     ap (λ m. option_map_or (λ (c : OpenCopy). c.moves && is_pp p c.pp) m false) it.is_open ∙ ap (λ (q : Pp). it.copy.moves && is_pp p q) it.its.0 ∙ by it.copy.moves (is_pp p begun.pp) refl
   where
     by : (a b : Bool) → is_pp p begun.pp ≡ b → a && b ≡ false
@@ -150,8 +150,8 @@ module _ (first old new : State) (device : new.device ≡ old.device) {lv lp num
 
 -- a request that waits for admission has failed nowhere
 none_fails : (core : Core) (p : Pp) (os : List Open) → AllByRecursion (IsOpenOne core) os → AllByRecursion IsUnadmitted os → list_any (fails_on p) os ≡ false
-none_fails core p [] its held = refl
-none_fails core p (o ∷ os) its held = ap (λ b. b || list_any (fails_on p) os) (by (is_waiting o) refl) ∙ none_fails core p os its.1 held.1
+none_fails now p [] its held = refl
+none_fails now p (o ∷ os) its held = ap (λ b. b || list_any (fails_on p) os) (by (is_waiting o) refl) ∙ none_fails now p os its.1 held.1
   where
     none : is_waiting o ≡ true → o.request.targets.items ≡ []
     none e = (subst (λ (f : Phase). IsPhase f o) (held.0 e) (its.0.waits e).shape.phase_is).0

@@ -231,6 +231,10 @@ module _ (first old : State) (patience left : ℕ) (moves : List PlannedMove) (k
     stops = stops;
   }
 
+  pub stops_mid : (after : ℕ) (new : State) (why : MoveFault) (stops : StopsAt m left after old new why) → (stops_here after new why stops).mid ≡ old
+    unfolding stops_here
+  stops_mid after new why stops = refl
+
   -- it has moved
   module _ (after : ℕ) (new : State) (sound : IsSound old) (places : IsPlanOf first.core.descriptor moves) (gives : CommitGives m left after old new (Ok tt)) (beside : GoesBesideMoving old new left after)
       (way : GoesCommitting (λ (x : Descriptor). x ≡ after_move old.core.descriptor m) old new) where

@@ -42,7 +42,7 @@ module _ (m : PlannedMove) (patience : ℕ) (old new : State) (sound : IsSound o
   denied_group = ap (λ (s : State). s.core.descriptor) opens.0
 
   pub denied_shut : (old.core.power ≡ power.Stuck → ⊥) → IsLeftShut {A = Unit {0}} new.core (Err why)
-  denied_shut unstuck = shut_err new.core why (λ on. ap (λ (s : State). s.core.copy) opens.0 ∙ shut) (λ stuck. unstuck (sym (ap (λ (s : State). s.core.power) opens.0) ∙ stuck))
+  denied_shut unstuck = shut_err new.core (Unit {0}) why (λ on. ap (λ (s : State). s.core.copy) opens.0 ∙ shut) (λ stuck. unstuck (sym (ap (λ (s : State). s.core.power) opens.0) ∙ stuck))
 
   pub denied_way : (Is : Descriptor → Type 0) → GoesCommitting Is old new
   denied_way Is = subst (λ (s : State). GoesCommitting Is old s) (sym opens.0) (going_none Is old)

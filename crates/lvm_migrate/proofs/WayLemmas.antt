@@ -183,33 +183,33 @@ stage_of d (x ∷ front) m rest = inr (stage_of (after_move d x) front m rest)
 
 -- ---- what is left open
 
-module _ {A : Type 0} (core : Core) where
-  pub shut_err : (why : MoveFault) → (core.power ≡ power.On → core.copy ≡ None) → (core.power ≡ power.Stuck → ⊥) → IsLeftShut {A = A} core (Err why)
-  shut_err fault.Stuck shut unstuck = tt
-  shut_err fault.Dark shut unstuck = (shut, unstuck)
-  shut_err (fault.WentOff have total) shut unstuck = (shut, unstuck)
-  shut_err fault.Busy shut unstuck = (shut, unstuck)
-  shut_err (fault.Missing disk) shut unstuck = (shut, unstuck)
-  shut_err (fault.Strict lp) shut unstuck = (shut, unstuck)
-  shut_err (fault.NoRoom free) shut unstuck = (shut, unstuck)
-  shut_err fault.HistoryFull shut unstuck = (shut, unstuck)
-  shut_err (fault.SyncFailed disk) shut unstuck = (shut, unstuck)
-  shut_err (fault.NoFresh lp) shut unstuck = (shut, unstuck)
-  shut_err fault.Memory shut unstuck = (shut, unstuck)
+module _ (core : Core) where
+  pub shut_err : (A : Type 0) (why : MoveFault) → (core.power ≡ power.On → core.copy ≡ None) → (core.power ≡ power.Stuck → ⊥) → IsLeftShut {A = A} core (Err why)
+  shut_err A fault.Stuck shut unstuck = tt
+  shut_err A fault.Dark shut unstuck = (shut, unstuck)
+  shut_err A (fault.WentOff have total) shut unstuck = (shut, unstuck)
+  shut_err A fault.Busy shut unstuck = (shut, unstuck)
+  shut_err A (fault.Missing disk) shut unstuck = (shut, unstuck)
+  shut_err A (fault.Strict lp) shut unstuck = (shut, unstuck)
+  shut_err A (fault.NoRoom free) shut unstuck = (shut, unstuck)
+  shut_err A fault.HistoryFull shut unstuck = (shut, unstuck)
+  shut_err A (fault.SyncFailed disk) shut unstuck = (shut, unstuck)
+  shut_err A (fault.NoFresh lp) shut unstuck = (shut, unstuck)
+  shut_err A fault.Memory shut unstuck = (shut, unstuck)
 
   -- where another answer would have been given
-  pub shut_same : {B : Type 0} (why : MoveFault) → IsLeftShut {A = B} core (Err why) → IsLeftShut {A = A} core (Err why)
-  shut_same fault.Stuck it = tt
-  shut_same fault.Dark it = it
-  shut_same (fault.WentOff have total) it = it
-  shut_same fault.Busy it = it
-  shut_same (fault.Missing disk) it = it
-  shut_same (fault.Strict lp) it = it
-  shut_same (fault.NoRoom free) it = it
-  shut_same fault.HistoryFull it = it
-  shut_same (fault.SyncFailed disk) it = it
-  shut_same (fault.NoFresh lp) it = it
-  shut_same fault.Memory it = it
+  pub shut_same : (A B : Type 0) (why : MoveFault) → IsLeftShut {A = B} core (Err why) → IsLeftShut {A = A} core (Err why)
+  shut_same A B fault.Stuck it = tt
+  shut_same A B fault.Dark it = it
+  shut_same A B (fault.WentOff have total) it = it
+  shut_same A B fault.Busy it = it
+  shut_same A B (fault.Missing disk) it = it
+  shut_same A B (fault.Strict lp) it = it
+  shut_same A B (fault.NoRoom free) it = it
+  shut_same A B fault.HistoryFull it = it
+  shut_same A B (fault.SyncFailed disk) it = it
+  shut_same A B (fault.NoFresh lp) it = it
+  shut_same A B fault.Memory it = it
 
   dark_shut : core.power ≡ power.Dark → (core.power ≡ power.On → core.copy ≡ None) × (core.power ≡ power.Stuck → ⊥)
   dark_shut dark = (λ on. absurd (let e : power.Dark ≡ power.On = sym dark ∙ on in cc e), λ stuck. let e : power.Dark ≡ power.Stuck = sym dark ∙ stuck in cc e)
@@ -218,7 +218,7 @@ module _ {A : Type 0} (core : Core) where
   off_shut off = (λ on. absurd (let e : power.Off ≡ power.On = sym off ∙ on in cc e), λ stuck. let e : power.Off ≡ power.Stuck = sym off ∙ stuck in cc e)
 
   -- where turns break off
-  pub shut_turns : (device : Device) (left : ℕ) (why : CommitFault) → DrainEnds left (state device core) (Err why) → IsLeftShut {A = A} core (Err (commit_fault_is why))
+  pub shut_turns : (device : Device) (left : ℕ) (why : CommitFault) → DrainEnds left (state device core) (Err why) → IsLeftShut {A = Unit {0}} core (Err (commit_fault_is why))
   shut_turns device left commit.Dark ends = dark_shut ends
   shut_turns device left (commit.WentOff have total) ends = off_shut ends.power_is
   shut_turns device left commit.Stuck ends = tt
@@ -246,12 +246,12 @@ shut_not before after old new why it there = of it.commits
       where
         by : (end : CommitEnd) → MoveEnds it.next w.last w.homes old.core it.written.core end (Err why) → IsLeftShut {A = Unit {0}} new.core (Err (commit_fault_is why))
         by (commit_end.Done back) goes = absurd (let e : ◌≡◌ {A = Result (Unit {0}) CommitFault} (Err why) (Ok tt) = goes.0 in cc e)
-        by (commit_end.WentOff have total back) goes = so (commit.WentOff have total) goes.0 (λ is. off_shut {A = Unit {0}} new.core (ap (λ (c : Core). c.power) is ∙ ap (λ (c : Core). c.power) goes.1))
-        by commit_end.Dark goes = so commit.Dark goes.0 (λ is. dark_shut {A = Unit {0}} new.core (ap (λ (c : Core). c.power) is ∙ ap (λ (c : Core). c.power) goes.1))
+        by (commit_end.WentOff have total back) goes = so (commit.WentOff have total) goes.0 (λ is. off_shut new.core (ap (λ (c : Core). c.power) is ∙ ap (λ (c : Core). c.power) goes.1))
+        by commit_end.Dark goes = so commit.Dark goes.0 (λ is. dark_shut new.core (ap (λ (c : Core). c.power) is ∙ ap (λ (c : Core). c.power) goes.1))
         by commit_end.Stuck goes = so commit.Stuck goes.0 (λ is. tt)
 
 -- where it is given up
 pub shut_given_up : (lp : ℕ) (old new : State) (how : CopyState) → IsDrained old → HasFailed how → new ≡ state old.device (closed old.core) → IsLeftShut {A = Unit {0}} new.core (Err (ended_fault how lp))
 shut_given_up lp old new how drained failed is =
     let on : new.core.power ≡ power.On = ap (λ (s : State). s.core.power) is ∙ drained.on in
-    shut_err new.core (ended_fault how lp) (λ was_on. ap (λ (s : State). s.core.copy) is) (λ stuck. let e : power.On ≡ power.Stuck = sym on ∙ stuck in cc e)
+    shut_err new.core (Unit {0}) (ended_fault how lp) (λ was_on. ap (λ (s : State). s.core.copy) is) (λ stuck. let e : power.On ≡ power.Stuck = sym on ∙ stuck in cc e)

@@ -1,4 +1,4 @@
-use Rattle.std.proofs.Common.{◌≡◌, ◌≤◌, false, List, length, ap, sym, subst, ◌∙◌}
+use Rattle.std.proofs.Common.{ℕ, ◌≡◌, ◌≤◌, false, List, length, ap, sym, subst, ◌∙◌}
 use Rattle.std.specs.Prelude.{All, IfOk}
 use Rattle.std.proofs.lemmas.Result.{err_from_is_err_and}
 use Rattle.lvm_session.specs.Judging.{is_missing}
@@ -23,7 +23,7 @@ returns-in_err-moves g c =
       stand = refused_stand _ _;
       empty = tt;
       fresh = tt;
-      closed = λ shut. shut_err c.args.driver.now.1 why (λ on. shut) c.requires.unstuck;
+      closed = λ shut. shut_err c.args.driver.now.1 ℕ why (λ on. shut) c.requires.unstuck;
       way = going_none _ s;
       caused = refused_cause s c.args.lv c.args.from c.args.to c.args.patience.now.left why c.in_err-moves.ensures.planned;
       beside = beside_none s c.args.patience.now.left;

@@ -1,10 +1,10 @@
-use Rattle.std.proofs.Common.{List, length, ap, sym, ◌∙◌, ◌≤◌, arith}
+use Rattle.std.proofs.Common.{ℕ, List, length, refl, ap, sym, ◌∙◌, ◌≤◌, arith}
 use Rattle.std.proofs.lemmas.Result.{err_from_is_err_and}
 use Rattle.lvm_session.specs.State.{State, state_of}
 use Rattle.lvm_move_plan.specs.declared.plan.PlannedMove.{PlannedMove}
 use Rattle.lvm_migrate.proofs.BesideLemmas.{beside_both}
 use Rattle.lvm_migrate.proofs.CausesLemmas.{cause_since}
-use Rattle.lvm_migrate.proofs.MigratingLemmas.{all_fresh, all_moved, all_stand, none_so_far, one_more, some_stand, stands_next, stops_here, unstuck_next, way_next}
+use Rattle.lvm_migrate.proofs.MigratingLemmas.{all_fresh, all_moved, all_stand, none_so_far, one_more, some_stand, stands_next, stops_here, stops_mid, unstuck_next, way_next}
 use Rattle.lvm_migrate.proofs.WayLemmas.{shut_same}
 use Rattle.lvm_migrate.proofs.migrating.move_all.Goals as goal
 
@@ -42,12 +42,13 @@ returns-in_err-move_one g c =
     let r = c.move_one.new.patience.left in
     let why = c.in_err-move_one.field-0.0 in
     let stops = stops_here first old p q c.args.moves.now c.loop-one.one-index none c.loop-one-test.true c.loop-one.invariant r new why c.in_err-move_one.ensures.moves in
+    let mid = stops_mid first old p q c.args.moves.now c.loop-one.one-index none c.loop-one-test.true c.loop-one.invariant r new why c.in_err-move_one.ensures.moves in
     let f = err_from_is_err_and c.from_residual.result c.from_residual.ensures.1 in
     rw (f.1, f.2) (record {
       moves = stops;
-      stand = some_stand first new c.args.moves.now p r why stops c.in_err-move_one.ensures.stays;
+      stand = some_stand first new c.args.moves.now p r why stops (c.in_err-move_one.ensures.stays ∙ ap (λ (s : State). s.core.descriptor) (sym mid));
       fresh = tt;
-      closed = shut_same new.core why c.in_err-move_one.ensures.closed;
+      closed = shut_same new.core ℕ (Unit {0}) why c.in_err-move_one.ensures.closed;
       way = way_next first old p q c.args.moves.now c.loop-one.one-index none c.loop-one-test.true c.loop-one.invariant new c.move_one.ensures.beside.counts c.move_one.ensures.way;
       caused = cause_since first old new p q why c.loop-one.invariant.later c.loop-one.invariant.beside c.in_err-move_one.ensures.caused;
       beside = beside_both first old new p q r c.loop-one.invariant.beside c.move_one.ensures.beside;
@@ -62,7 +63,7 @@ returns g c =
     let q = c.loop-one.patience.left in
     let all : length c.args.moves.now ≤ c.loop-one.one-index = omega arith in
     record {
-      moves = all_moved first now p q c.args.moves.now c.loop-one.one-index c.loop-one.invariant all c.len.result c.len.ensures;
+      moves = all_moved first now p q c.args.moves.now c.loop-one.one-index c.loop-one.invariant all _ refl;
       stand = all_stand first now p q c.args.moves.now c.loop-one.one-index c.loop-one.invariant all;
       fresh = all_fresh first now p q c.args.moves.now c.loop-one.one-index c.loop-one.invariant all;
       closed = (c.loop-one.invariant.on, c.loop-one.invariant.shut);

@@ -16,7 +16,7 @@ open-requires-clause-may g c = may_open c.args.driver.now.1 c.args.one c.is_soun
 pub drain-requires : goal.drain-requires
 drain-requires g c =
     let device = g.S.Shelf.device in
-    still_unstuck (state_of device c.args.driver.now) (state_of device c.open.new.driver) c.args.one c.in_ok-open.ensures.opens c.requires.unstuck
+    record { unstuck = still_unstuck (state_of device c.args.driver.now) (state_of device c.open.new.driver) c.args.one c.in_ok-open.ensures.opens c.requires.unstuck; }
 
 pub returns-in_err-open : goal.returns-in_err-open
 returns-in_err-open g c =
@@ -46,7 +46,7 @@ returns-in_err-drain g c =
     let why = c.in_err-drain.field-0.0 in
     let ends = c.in_err-drain.ensures.ends in
     let costs = c.in_err-drain.ensures.costs in
-    let f = err_from_is_err_and c.from_residual.result c.from_residual.ensures.1 in
+    let f = err_from_is_err_and c.from_residual-in_err-drain.result c.from_residual-in_err-drain.ensures.1 in
     rw (f.1, f.2) (record {
       moves = broken_stops c.args.one p old mid c.in_ok-open.ensures.opens c.open.ensures.leaves c.is_sound-2.ensures q new c.drain.ensures.turns c.drain.ensures.runs c.drain.ensures.patience c.drain.ensures.waited why ends costs;
       closed = shut_turns c.drain.new.self.1 (device c.drain.new.self.0) q why ends;
@@ -62,8 +62,10 @@ conclude-requires g c =
     let old : State = state_of device c.args.driver.now in
     let mid : State = state_of device c.open.new.driver in
     let new : State = state_of device c.drain.new.self in
-    may_end c.args.one c.args.patience.now.left old mid c.in_ok-open.ensures.opens c.open.ensures.leaves c.is_sound-2.ensures c.drain.new.patience.left new c.drain.ensures.turns c.drain.ensures.runs c.drain.ensures.patience c.drain.ensures.waited
-    c.in_ok-drain.ensures.ends c.in_ok-drain.ensures.costs c.is_sound.ensures c.is_sound-3.ensures c.requires.epoch
+    record {
+      may = may_end c.args.one c.args.patience.now.left old mid c.in_ok-open.ensures.opens c.open.ensures.leaves c.is_sound-2.ensures c.drain.new.patience.left new c.drain.ensures.turns c.drain.ensures.runs c.drain.ensures.patience c.drain.ensures.waited
+          c.in_ok-drain.ensures.ends c.in_ok-drain.ensures.costs c.is_sound.ensures c.is_sound-3.ensures c.requires.epoch;
+    }
 
 pub returns : goal.returns
 returns g c =
