@@ -232,7 +232,7 @@ module _ (first old : State) (patience left : ℕ) (moves : List PlannedMove) (k
   }
 
   pub stops_mid : (after : ℕ) (new : State) (why : MoveFault) (stops : StopsAt m left after old new why) → (stops_here after new why stops).mid ≡ old
-    unfolding stops_here
+  unfolding stops_here
   stops_mid after new why stops = refl
 
   -- it has moved
