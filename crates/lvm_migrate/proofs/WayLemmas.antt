@@ -106,11 +106,10 @@ turns_lose : {P : State → Type 0} {first last : State} → IsSound first → P
 turns_lose {first = first} sound (Here here) = (loses_none first, none_falls_at_once first.device.counts, sound)
 turns_lose {first = first} {last = last} sound (Then {m = mid} path turn there) =
     let before = turns_lose sound path in
-    let counts = turn_counts mid last turn.0 turn.1 in
-    (
+    let counts = turn_counts mid last turn.0 turn.1 in (
       loses_both first mid last before.1 counts before.0 (turn_loses mid last turn.0 before.2 turn.1),
       none_falls_on before.1 counts,
-      turn_keeps mid last turn.0 before.2 turn.1
+      turn_keeps mid last turn.0 before.2 turn.1,
     )
 
 pub going_turns : {P : State → Type 0} (Is : Descriptor → Type 0) (old new : State) → IsSound old → Path IsTurn P old new → RunsOn old new → GoesCommitting Is old new
@@ -226,11 +225,10 @@ module _ (core : Core) where
 
 -- where it is committed
 pub shut_well : (before after : ℕ) (old new : State) → IsDrained old → CommitsOpenMove before after old new (Ok tt) → IsLeftShut {A = Unit {0}} new.core (Ok tt)
-shut_well before after old new drained it =
-    (
-      ap (λ (s : State). s.core.power) it.is ∙ ap (λ (c : Core). c.power) (written_well before after old new it).goes.is ∙ drained.on,
-      ap (λ (s : State). s.core.copy) it.is
-    )
+shut_well before after old new drained it = (
+  ap (λ (s : State). s.core.power) it.is ∙ ap (λ (c : Core). c.power) (written_well before after old new it).goes.is ∙ drained.on,
+  ap (λ (s : State). s.core.copy) it.is,
+)
 
 pub shut_not : (before after : ℕ) (old new : State) (why : CommitFault) → CommitsOpenMove before after old new (Err why) → ((disk : ℕ) → why ≡ commit.DiskFailed disk → ⊥) → IsLeftShut {A = Unit {0}} new.core (Err (commit_fault_is why))
 shut_not before after old new why it there = of it.commits

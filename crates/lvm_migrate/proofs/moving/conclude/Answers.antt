@@ -13,7 +13,7 @@ pub commit_move-requires-clause-done : goal.commit_move-requires-clause-done
 commit_move-requires-clause-done g c = sym c.copy_state.ensures.is ∙ c.in-Done.is
 
 pub close_copy-requires : goal.close_copy-requires
-close_copy-requires g c = record { ended = no_run (state_of g.S.Shelf.device c.args.driver.now) c.requires.may.ends; }
+close_copy-requires g c = record { ended = no_run (state_of g.S.Shelf.device c.args.driver.now) c.requires.may.ends }
 
 pub ended-requires : goal.ended-requires
 ended-requires g c = failed_of (state_of g.S.Shelf.device c.args.driver.now) c.copy_state.result c.copy_state.ensures.is c.requires.may.ends c.in_default.not-Done

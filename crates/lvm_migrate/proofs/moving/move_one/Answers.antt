@@ -16,7 +16,7 @@ open-requires-clause-may g c = may_open c.args.driver.now.1 c.args.one c.is_soun
 pub drain-requires : goal.drain-requires
 drain-requires g c =
     let device = g.S.Shelf.device in
-    record { unstuck = still_unstuck (state_of device c.args.driver.now) (state_of device c.open.new.driver) c.args.one c.in_ok-open.ensures.opens c.requires.unstuck; }
+    record { unstuck = still_unstuck (state_of device c.args.driver.now) (state_of device c.open.new.driver) c.args.one c.in_ok-open.ensures.opens c.requires.unstuck }
 
 pub returns-in_err-open : goal.returns-in_err-open
 returns-in_err-open g c =
