@@ -1,5 +1,5 @@
 -- The written-out session whose second copy has moved meets what is asked of one.
-use Rattle.std.proofs.Common.{◌≡◌, ◌⊎◌, ◌↔◌, inl, inr, ⊎_elim, ℕ, ◌<◌, ◌/◌, Bool, true, false, ◌&&◌, ◌||◌, ◌==◌, if◌then◌else◌, List, [], ◌∷◌, Option, Some, None, refl, sym, ap, subst, ◌∙◌, arith, eqb-true, eq-eqb}
+use Rattle.std.proofs.Common.{◌≡◌, ◌⊎◌, ◌↔◌, inl, inr, ⊎_elim, ℕ, zero, suc, ◌<◌, ◌/◌, Bool, true, false, ◌&&◌, ◌||◌, ◌==◌, if◌then◌else◌, List, [], ◌∷◌, Option, Some, None, refl, sym, ap, subst, ◌∙◌, arith, eqb-true, eq-eqb}
 use Rattle.std.specs.Prelude.{IsTrue, IsFalse, nat_lt, slice_get}
 use Rattle.std.proofs.lemmas.Bool.{cases_Bool}
 use Rattle.std.proofs.lemmas.Bool.Decides.{nat_tests}
@@ -283,8 +283,8 @@ module _ (mode : Mode) where
   }
     where
       elsewhere : (k : ℕ) (p : Pp) → slice_get (copies_of (mirror mode) 0) k ≡ Some p → (k ≡ 1 → ⊥) → p.disk ≡ 1 → ⊥
-      elsewhere 0 p at other same = absurd (let e : first_copy ≡ p = cc at in let k : ◌≡◌ {A = ℕ} 0 1 = ap (λ (q : Pp). q.disk) e ∙ same in omega (arith, k))
-      elsewhere (suc 0) p at other same = other refl
+      elsewhere zero p at other same = absurd (let e : first_copy ≡ p = cc at in let k : ◌≡◌ {A = ℕ} 0 1 = ap (λ (q : Pp). q.disk) e ∙ same in omega (arith, k))
+      elsewhere (suc zero) p at other same = other refl
       elsewhere (suc (suc k)) p at other same = nothing p at
 
   agrees : AgreesBut s free_partition (as_they_stand mode)
@@ -329,6 +329,7 @@ module _ (mode : Mode) where
   }
 
   pub may_take : (votes : Votes) → AreVotesOf (two mode) votes → MayTakePlace votes s (as_they_stand mode) its_place (two mode) (moved_group mode) 1 0 second_copy c
+  unfolding may_stand
   may_take votes are = record {
     are_votes = are;
     good = good votes are;
