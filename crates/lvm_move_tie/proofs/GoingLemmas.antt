@@ -18,8 +18,7 @@ use Rattle.lvm_steps.proofs.MomentsLemmas.Spans.{keeps_path}
 use Rattle.lvm_commit.specs.declared.commit.CommitEnd.{CommitEnd}
 use Rattle.lvm_commit.specs.declared.commit.CommitEnd.TheVariants as commit_end
 use Rattle.lvm_commit.specs.LawsOfFinding.{FindsNoMoreOn}
-use Rattle.lvm_commit.specs.Settling.{DescriptorEnds, IsPlain}
-use Rattle.lvm_num.specs.declared.record.Kind.TheVariants as kind
+use Rattle.lvm_commit.specs.Settling.{DescriptorEnds}
 use Rattle.lvm_core.specs.Committing.{with_one_out}
 use Rattle.lvm_core.specs.declared.fault.CommitFault.{CommitFault}
 use Rattle.lvm_core.specs.declared.fault.CommitFault.TheVariants as fault
@@ -94,7 +93,7 @@ module _ (past : List Fact) (s new : State) (c : OpenCopy) (content : List ℕ) 
   by_end commit_end.Stuck goes ends = absurd (cc goes.0)
   by_end (commit_end.Done back) goes ends =
       let review = goes.1 in
-      let is : IsCommittedTo s c content before after w.last w.homes new.device = record { reads = reads_it; number = 0; back = back; Plain = IsPlain kind.Descriptor content s.core.status w.last s.core.homes s.device new.device; ends = ends; leaves = w.leaves; keeps = last-path w.kept } in
+      let is : IsCommittedTo s c content before after w.last w.homes new.device = record { reads = reads_it; number = 0; back = back; ends = ends; leaves = w.leaves; keeps = last-path w.kept } in
       let whole : new ≡ state new.device (core2 past s c tied drained spares content before after w.last w.homes new.device is new.core.status) = (λ t. state new.device (review.is t)) in
       let reviewed : Reviews (base past s c tied drained spares content before after w.last w.homes new.device is new.core.status) (core2 past s c tied drained spares content before after w.last w.homes new.device is new.core.status) = record { marks = review.marks; is = refl } in
       let sound2 = subst IsSound whole sound in

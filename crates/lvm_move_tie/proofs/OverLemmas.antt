@@ -140,30 +140,30 @@ module _ (past : List Fact) (s : State) (c : OpenCopy) (tied : IsTied past s) (d
   -- ---- with any history with which the state describes the disks, and each loss of power agrees
 
   module _ (content : List ℕ) (reads : descriptor_of content ≡ Ok next) (of : IsOf group core.status) (held : SessionIsHeld s.device group core.status core.homes) where
-    pub kept_with : (h : List Fact) (missing : ℕ → Bool) → Describes v h group None shown → EachViewAgrees (record w { missing = missing }) h → ImagesKept s.device h
-        → (d : Device) → KeepsAt content s d → ImagesKept d h
-    kept_with h missing describes agrees kept d keeps = keeps group next (λ n. n == c.lv) h reads of held all kept
-      where
-        abbrev x : ModelState
-        x = record w { missing = missing }
+    module _ (h : List Fact) (missing : ℕ → Bool) (describes : Describes v h group None shown) (agrees : EachViewAgrees (record w { missing = missing }) h) (kept : ImagesKept s.device h) where
+      abbrev x : ModelState
+      x = record w { missing = missing }
 
-        volumes : HasVolumes x h next (members_showing shown next)
-        volumes = let m = (described h describes).0 in record { copies = m.copies; free = m.free; inside = m.inside; some = m.some; notes = m.notes; mark = m.mark; modes = m.modes; history = m.history }
+      volumes : HasVolumes x h next (members_showing shown next)
+      volumes = let m = (described h describes).0 in record { copies = m.copies; free = m.free; inside = m.inside; some = m.some; notes = m.notes; mark = m.mark; modes = m.modes; history = m.history }
 
-        shows : Shows x next None shown
-        shows = let m = (described h describes).1 in record { blocks = m.blocks; names = m.names; status = m.status; statuses = record { same = m.statuses.same; own = m.statuses.own; once = m.statuses.once; new = m.statuses.new } }
+      shows : Shows x next None shown
+      shows = let m = (described h describes).1 in record { blocks = m.blocks; names = m.names; status = m.status; statuses = record { same = m.statuses.same; own = m.statuses.own; once = m.statuses.once; new = m.statuses.new } }
 
-        by_quorum : Found tied.votes x
-        by_quorum = let f = good_w.found in record { set = f.set; enough = f.enough; have = f.have; only = f.only; newer = f.newer }
+      by_quorum : Found tied.votes x
+      by_quorum = let f = good_w.found in record { set = f.set; enough = f.enough; have = f.have; only = f.only; newer = f.newer }
 
-        differs : DiffersInVolume c.lv group next
-        differs = differs_in c.lv c.lp c.copy c.pp group
+      differs : DiffersInVolume c.lv group next
+      differs = differs_in c.lv c.lp c.copy c.pp group
 
-        one : VolumesServe shown h group (λ n. n == c.lv) next
-        one = one_serves shown h group c.lv next (serves tied.votes x h group next.lvs c.lv shown found_so (record { reads = tied.setting.are_votes.reads; writes = tied.setting.are_votes.writes }) by_quorum agrees volumes shows differs)
+      one : VolumesServe shown h group (λ n. n == c.lv) next
+      one = one_serves shown h group c.lv next (serves tied.votes x h group next.lvs c.lv shown found_so (record { reads = tied.setting.are_votes.reads; writes = tied.setting.are_votes.writes }) by_quorum agrees volumes shows differs)
 
-        all : IfSome s.device.media (λ media. VolumesServe (contents_of (image_of s.device.sizes media)) h group (λ n. n == c.lv) next)
-        all = subst (λ (m : Option Media). IfSome m (λ media. VolumesServe (contents_of (image_of s.device.sizes media)) h group (λ n. n == c.lv) next)) (sym tied.setting.told) one
+      all : IfSome s.device.media (λ media. VolumesServe (contents_of (image_of s.device.sizes media)) h group (λ n. n == c.lv) next)
+      all = subst (λ (m : Option Media). IfSome m (λ media. VolumesServe (contents_of (image_of s.device.sizes media)) h group (λ n. n == c.lv) next)) (sym tied.setting.told) one
+
+      pub kept_with : (d : Device) → KeepsAt content s d → ImagesKept d h
+      kept_with d keeps = keeps group next (λ n. n == c.lv) h reads of held all kept
 
     -- ---- while it is on
 

@@ -13,6 +13,7 @@ use Rattle.lvm_num.specs.Geometry.{sector_of, sectors_needed}
 use Rattle.lvm_steps.specs.Behind.{StampsBefore}
 use Rattle.lvm_invariant.specs.Sound.{StaysFresh}
 use Rattle.lvm_num.specs.declared.place.Pp.{Pp}
+use Rattle.lvm_num.specs.declared.record.Kind.TheVariants as kind
 use Rattle.lvm_num.specs.declared.record.Stamp.{Stamp}
 use Rattle.lvm_num.specs.declared.descriptor.Descriptor.{Descriptor}
 use Rattle.lvm_num.specs.declared.descriptor.LvRow.{LvRow}
@@ -40,7 +41,7 @@ use Rattle.lvm_rec.specs.declared.homes.Homes.{Homes}
 use Rattle.lvm_status.specs.Update.{Stored, members_there, seen, Updates}
 use Rattle.lvm_commit.specs.Committed.{HoldsCommitted, next_stamp}
 use Rattle.lvm_commit.specs.LawsOfVolumes.{LeavesOthers}
-use Rattle.lvm_commit.specs.Settling.{ComesHeld, CommitLeaves, EndsCommitted, HasAnother, IsOfCommit, IsPassedOver, OthersAreLeft, SessionIsHeld, there}
+use Rattle.lvm_commit.specs.Settling.{ComesHeld, CommitLeaves, EndsCommitted, HasAnother, IsOfCommit, IsPassedOver, IsPlain, OthersAreLeft, SessionIsHeld, there}
 use Rattle.lvm_commit.proofs.LawsLemmas.Found.{shows_group}
 use Rattle.lvm_mwc.specs.declared.notes.DiskNotes.{DiskNotes}
 use Rattle.lvm_mwc.specs.Cache.{flight_on, notes_on}
@@ -113,8 +114,7 @@ pub record IsCommittedTo (s : State) (c : OpenCopy) (content : List ℕ) (before
   pub reads : descriptor_of content ≡ Ok (next_group s c)
   pub number : ℕ
   pub back : Buffer
-  pub Plain : Type 0
-  pub ends : EndsCommitted (ComesHeld content s.core.status last s.core.homes homes s.device device) Plain number last s.device device back
+  pub ends : EndsCommitted (ComesHeld content s.core.status last s.core.homes homes s.device device) (IsPlain kind.Descriptor content s.core.status last s.core.homes s.device device) number last s.device device back
   pub leaves : CommitLeaves (next_group s c) (IsOfCommit content s.core.status last) before after s.core.status last s.device device
   pub keeps : KeepsAt content s device
 
