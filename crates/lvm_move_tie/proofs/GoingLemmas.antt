@@ -201,8 +201,8 @@ module _ (run : ℕ) (s : State) (c : OpenCopy) (before after : ℕ) (answer : R
             )
 
 pub commit_move_goes_on : CommitMoveGoesOn
-commit_move_goes_on run s new c before after answer sound sound_new drained epoch spares sectors commits lost first good =
+commit_move_goes_on run s new c before after answer sound sound_new drained epoch spares commits lost first good =
     let d_is = ready_is s c sound drained epoch commits.next commits.ready in
     let it = subst (λ (d : Descriptor). CommitsMove d (descriptor_bytes d) before after s commits.written answer) d_is commits.commits in
     let w = written s c sound drained epoch (descriptor_bytes (next_group s c)) before after commits.written answer it in
-    goes_on run s c before after answer commits.written sound drained epoch spares w first good new commits.is sound_new sectors lost it
+    goes_on run s c before after answer commits.written sound drained epoch spares w first good new commits.is sound_new commits.sectors lost it
