@@ -334,7 +334,7 @@ module _ (past : List Fact) (s : State) (c : OpenCopy) (tied : IsTied past s) (d
     shows_base d there_now = members_show past s c tied drained d (was_there d (sym (same_base d) ∙ there_now))
 
     wants : Wants mid (marks_of None st.wanted) missing None
-    wants = review_is_wanted base core2 mid missing v.facts (members_showing shown next) valid volumes_mid shows_base sees_mid keeps_mid good.sound.tied.owner (λ x open. absurd (cc open)) (λ none. refl) review
+    wants = review_is_wanted base core2 mid missing v.facts (members_showing shown next) valid volumes_mid shows_base sees_mid keeps_mid good.sound.tied.owner (λ x is_opened. absurd (cc is_opened)) (λ none. refl) review
 
     -- ---- as it is then
 
@@ -452,7 +452,7 @@ module _ (past : List Fact) (s : State) (c : OpenCopy) (tied : IsTied past s) (d
     sees2 = record {
       queue = record {
         requests = tied.sees.queue.requests;
-        a_step = λ x open. absurd (cc open);
+        a_step = λ x is_opened. absurd (cc is_opened);
         only = λ i q at. inl (only past s c tied drained i q at);
         names = tied.sees.queue.names;
       };
@@ -517,7 +517,7 @@ module _ (past : List Fact) (s : State) (c : OpenCopy) (tied : IsTied past s) (d
       since = subst (OnlyUpdateSince device None) (sym no_update) tt;
       recorded = recorded2;
       notes = λ d items flies. some_is_none (flight_on core.cache d) items (none_noted d) flies;
-      copy_aimed = λ x open. absurd (cc open);
+      copy_aimed = λ x is_opened. absurd (cc is_opened);
       carry = none_carried device.flights is.ends.back.ready.flights;
     }
       where
