@@ -96,8 +96,7 @@ module _ (past : List Fact) (s new : State) (c : OpenCopy) (content : List ℕ) 
       let is : IsCommittedTo s c content before after w.last w.homes new.device = record { reads = reads_it; number = 0; back = back; ends = ends; leaves = w.leaves; keeps = last-path w.kept } in
       let whole : new ≡ state new.device (core2 past s c tied drained spares content before after w.last w.homes new.device is new.core.status) = (λ t. state new.device (review.is t)) in
       let reviewed : Reviews (base past s c tied drained spares content before after w.last w.homes new.device is new.core.status) (core2 past s c tied drained spares content before after w.last w.homes new.device is new.core.status) = record { marks = review.marks; is = refl } in
-      let sound2 = subst IsSound whole sound in
-      (
+      let sound2 = subst IsSound whole sound in (
         subst (IsTied past) (sym whole) (tied2 past s c tied drained spares content before after w.last w.homes new.device is new.core.status reviewed sound2 sectors lost),
         subst SparesDescriptors (sym whole) (spares2 past s c tied drained spares content before after w.last w.homes new.device is new.core.status reviewed sound2 sectors lost),
       )
@@ -176,26 +175,22 @@ module _ (run : ℕ) (s : State) (c : OpenCopy) (before after : ℕ) (answer : R
             let core_is = goes.1.is in
             let none : closed written_.core ≡ written_.core = (λ t. closed (core_is t)) ∙ sym core_is in
             let same : new ≡ written_ = new_is (Ok tt) goes.0 ∙ ap (λ (x : Core). state device x) none in
-            let ok : CommitsMove (next_group s c) content before after s new (Ok tt) = subst (λ (x : State). CommitsMove (next_group s c) content before after s x (Ok tt)) (sym same) (subst (λ (a : Result (Unit {0}) CommitFault). CommitsMove (next_group s c) content before after s written_ a) goes.0 commits) in
-            (
+            let ok : CommitsMove (next_group s c) content before after s new (Ok tt) = subst (λ (x : State). CommitsMove (next_group s c) content before after s x (Ok tt)) (sym same) (subst (λ (a : Result (Unit {0}) CommitFault). CommitsMove (next_group s c) content before after s written_ a) goes.0 commits) in (
               λ on past begins. (move_ties past s new c content before after (tied past begins) drained spares (reads s c sound drained epoch) ok sound_new sectors (lost goes.0)).0,
               λ span. subst (λ (x : State). Keeps run first (moment_of x)) (sym same) (subst (λ (l : List Fact). Keeps run first (at device l)) (sym (ap (λ (x : Core). x.history.facts) core_is)) (over_steps span)),
             )
         by (commit_end.WentOff have total back) goes =
-            let same : new ≡ state device (closed (all_off (record s.core { status = w.last; homes = w.homes }))) = new_is (Err (fault.WentOff have total)) goes.0 ∙ ap (λ (x : Core). state device (closed x)) goes.1 in
-            (
+            let same : new ≡ state device (closed (all_off (record s.core { status = w.last; homes = w.homes }))) = new_is (Err (fault.WentOff have total)) goes.0 ∙ ap (λ (x : Core). state device (closed x)) goes.1 in (
               not_on new power.Off (ap (λ (x : State). x.core.power) same) (λ e. cc e),
               λ span. subst (λ (x : State). Keeps run first (moment_of x)) (sym same) (over_off span),
             )
         by commit_end.Dark goes =
-            let same : new ≡ state device (closed (all_dark (record s.core { pool = with_one_out s.core.pool; status = w.last; homes = w.homes }))) = new_is (Err fault.Dark) goes.0 ∙ ap (λ (x : Core). state device (closed x)) goes.1 in
-            (
+            let same : new ≡ state device (closed (all_dark (record s.core { pool = with_one_out s.core.pool; status = w.last; homes = w.homes }))) = new_is (Err fault.Dark) goes.0 ∙ ap (λ (x : Core). state device (closed x)) goes.1 in (
               not_on new power.Dark (ap (λ (x : State). x.core.power) same) (λ e. cc e),
               λ span. subst (λ (x : State). Keeps run first (moment_of x)) (sym same) (over_dark span),
             )
         by commit_end.Stuck goes =
-            let same : new ≡ state device (record (closed (record s.core { pool = with_one_out s.core.pool; status = w.last; homes = w.homes })) { power = power.Stuck }) = new_is (Err fault.Stuck) goes.0 ∙ ap (λ (x : Core). state device (record (closed x) { power = power.Stuck })) goes.1 in
-            (
+            let same : new ≡ state device (record (closed (record s.core { pool = with_one_out s.core.pool; status = w.last; homes = w.homes })) { power = power.Stuck }) = new_is (Err fault.Stuck) goes.0 ∙ ap (λ (x : Core). state device (record (closed x) { power = power.Stuck })) goes.1 in (
               not_on new power.Stuck (ap (λ (x : State). x.core.power) same) (λ e. cc e),
               λ span. subst (λ (x : State). Keeps run first (moment_of x)) (sym same) (over_steps span),
             )
