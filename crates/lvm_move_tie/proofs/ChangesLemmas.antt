@@ -1,12 +1,12 @@
 -- What a commit leaves of the disks beside its records.
-use Rattle.std.proofs.Common.{◌≡◌, ◌⊎◌, inl, inr, ⊎_elim, ℕ, ◌+◌, ◌*◌, ◌<◌, ◌≤◌, List, length, refl, sym, ap, ◌∙◌, arith}
-use Rattle.std.specs.Prelude.{IsTrue, IsFalse}
+use Rattle.std.proofs.Common.{◌≡◌, ⊎_elim, ℕ, ◌+◌, ◌<◌, ◌≤◌, List, length, arith}
+use Rattle.std.specs.Prelude.{IsFalse}
 use Rattle.lvm_num.specs.declared.record.Kind.{Kind}
 use Rattle.lvm_num.specs.declared.record.Kind.TheVariants as kind
 use Rattle.lvm_num.specs.Buffer.{Sector}
 use Rattle.lvm_num.specs.DescriptorBytes.{descriptor_of}
 use Rattle.lvm_num.specs.Geometry.{data_start}
-use Rattle.lvm_num.specs.Record.{record_sectors, slot_size, slot_start}
+use Rattle.lvm_num.specs.Record.{slot_size, slot_start}
 use Rattle.lvm_num.proofs.Booleans.{clash_gives}
 use Rattle.lvm_num.proofs.TornLemmas.Torn.{sectors-fit}
 use Rattle.lvm_disk.specs.Device.{Image}

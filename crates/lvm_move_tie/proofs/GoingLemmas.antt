@@ -1,9 +1,8 @@
 -- A good session whose move is done goes on over its commit.
-use Rattle.std.proofs.Common.{◌≡◌, ◌⊎◌, inl, inr, ℕ, Bool, true, false, if◌then◌else◌, List, [], ◌∷◌, ◌++◌, Option, Some, None, Result, Ok, Err, refl, sym, ap, subst, ◌∙◌}
+use Rattle.std.proofs.Common.{◌≡◌, ℕ, Bool, true, false, if◌then◌else◌, List, [], ◌∷◌, ◌++◌, Option, Some, None, Result, Ok, Err, refl, sym, ap, subst, ◌∙◌}
 use Rattle.std.specs.Prelude.{◌≢◌, IfSome}
 use Rattle.lvm_num.specs.declared.descriptor.Descriptor.{Descriptor}
 use Rattle.lvm_num.specs.DescriptorBytes.{descriptor_bytes, descriptor_of}
-use Rattle.lvm_num.specs.Descriptor.{IsValid}
 use Rattle.lvm_vgda.proofs.DescriptorBytesLemmas.Whole.{spelled_is_read}
 use Rattle.lvm_vol.specs.declared.entry.Outcome.TheVariants as outcome
 use Rattle.lvm_vol.specs.Facts.{Fact, Cut}
@@ -30,16 +29,14 @@ use Rattle.lvm_session.specs.Calls.{closed}
 use Rattle.lvm_session.specs.Dark.{all_dark, all_off, landings as all_landings}
 use Rattle.lvm_session.specs.Marks.{Reviews}
 use Rattle.lvm_session.specs.Sound.{IsCopy, IsSound}
-use Rattle.lvm_session.specs.Judging.{is_move_done}
-use Rattle.lvm_move.specs.Moving.{CommitsMove, GoesOnMoved, Misses, MoveEnds, Writes, WritesMove, missing_destination}
+use Rattle.lvm_move.specs.Moving.{CommitsMove, Misses, MoveEnds, Writes, WritesMove, missing_destination}
 use Rattle.lvm_move_keeps.specs.Drained.{IsDrainedMoving}
 use Rattle.lvm_move_keeps.specs.Keeping.{HasMovedTo}
 use Rattle.lvm_move_keeps.proofs.DrainedLemmas.{done_may_commit}
 use Rattle.lvm_move_keeps.proofs.IdleLemmas.{whole_move}
 use Rattle.lvm_move_keeps.proofs.StandsLemmas.{move_has_moved}
-use Rattle.lvm_going.specs.Going.{CommitsOpenMove, closed_after}
+use Rattle.lvm_going.specs.Going.{closed_after}
 use Rattle.lvm_going.specs.Moves.{next_in, next_of}
-use Rattle.lvm_tie.specs.GoingOn.{SessionGoesOn}
 use Rattle.lvm_tie.specs.Spares.{SparesDescriptors}
 use Rattle.lvm_tie.specs.Tied.{IsGood, IsTied}
 use Rattle.lvm_tie.proofs.OverLemmas.Landings.{land_all}

@@ -1,8 +1,7 @@
 -- The copies of a group and of one in which a copy stands on another partition.
-use Rattle.std.proofs.Common.{◌≡◌, ◌⊎◌, inl, inr, ⊎_elim, ◌&&◌, ◌==◌, ◌≤◌, ◌<◌, ◌+◌, ◌*◌, ◌-◌, ℕ, zero, suc, Bool, true, false, if◌then◌else◌, List, [], ◌∷◌, Option, Some, None, get_or, map, length, take, drop, refl, sym, ap, subst, ◌∙◌, arith}
-use Rattle.std.specs.Prelude.{AllPairs, IsFalse, ◌↔◌, find, option_map, slice_get, slice_set}
+use Rattle.std.proofs.Common.{◌≡◌, ◌⊎◌, inl, inr, ⊎_elim, ◌&&◌, ◌==◌, ◌≤◌, ◌<◌, ◌+◌, ◌*◌, ◌-◌, ℕ, zero, suc, Bool, true, false, if◌then◌else◌, List, [], ◌∷◌, Option, Some, None, map, length, take, drop, refl, sym, ap, subst, ◌∙◌, arith}
+use Rattle.std.specs.Prelude.{AllPairs, IsFalse, find, option_map, slice_get, slice_set}
 use Rattle.std.proofs.lemmas.Bool.{cases_lt, eq-eqb, eqb-true, ne_eqb}
-use Rattle.std.proofs.lemmas.List.{length-take}
 use Rattle.std.proofs.Math.Nat.{mul-le-mul_right}
 use Rattle.lvm_num.specs.declared.descriptor.Descriptor.{Descriptor}
 use Rattle.lvm_num.specs.declared.descriptor.LvRow.{LvRow}
@@ -17,7 +16,6 @@ use Rattle.lvm_kept.proofs.ChangesLemmas.Entries.{volume_is_row}
 use Rattle.lvm_steps.specs.Committing.{DiffersInVolume}
 use Rattle.lvm_crash.proofs.CopiesLemmas.{number_finds, one_at}
 use Rattle.lvm_moved.specs.Moved.{MayStandOn, moved_descriptor, moved_row, place_in_map, with_copy_on}
-use Rattle.lvm_moved.proofs.MovedLemmas.{place_inside}
 use Rattle.lvm_move_laws.specs.Moving.{AreMoved, HasMoved, MovesIn}
 use Rattle.lvm_move_tie.specs.Moved.{MovedMovesIn}
 

@@ -1,5 +1,5 @@
 -- What is kept at each moment while the descriptor of a move is written, with the history as it is, and with each with which the session may end then.
-use Rattle.std.proofs.Common.{◌≡◌, ◌⊎◌, inl, inr, ⊎_elim, ℕ, suc, ◌+◌, ◌≤◌, Bool, true, false, ◌&&◌, ◌||◌, ◌==◌, not, if◌then◌else◌, List, [], ◌∷◌, ◌++◌, Option, Some, None, Ok, is_some, slice_get, refl, sym, ap, subst, ◌∙◌, append_assoc, arith, eq-eqb}
+use Rattle.std.proofs.Common.{◌≡◌, inl, inr, ⊎_elim, ℕ, suc, ◌+◌, ◌≤◌, Bool, true, false, ◌&&◌, ◌||◌, ◌==◌, not, if◌then◌else◌, List, [], ◌∷◌, ◌++◌, Option, Some, None, Ok, is_some, slice_get, refl, sym, ap, subst, ◌∙◌, append_assoc, arith, eq-eqb}
 use Rattle.std.specs.Prelude.{IfSome, IsTrue, IsFalse, nat_le, nat_lt}
 use Rattle.std.specs.Option.{option_map_or}
 use Rattle.std.proofs.lemmas.Bool.{and_parts, cases_Bool}
@@ -9,7 +9,6 @@ use Rattle.arrayvec.specs.ArrayVec.{ArrayVec}
 use Rattle.lvm_num.specs.declared.place.Pp.{Pp}
 use Rattle.lvm_num.specs.declared.record.NoteEntry.{NoteEntry}
 use Rattle.lvm_num.specs.declared.descriptor.Descriptor.{Descriptor}
-use Rattle.lvm_num.specs.declared.descriptor.LvRow.{LvRow}
 use Rattle.lvm_num.specs.declared.status.Status.{Status}
 use Rattle.lvm_num.specs.Buffer.{Sector}
 use Rattle.lvm_num.specs.Descriptor.{is_pp}
@@ -24,7 +23,7 @@ use Rattle.lvm_vol.specs.Legal.{Legal}
 use Rattle.lvm_vol.specs.Log.{is_uncut, request_of}
 use Rattle.lvm_vol.specs.May.{known}
 use Rattle.lvm_vol.proofs.LogLemmas.{found_of}
-use Rattle.lvm_disk.specs.Device.{Device, Flight, Image, IsInFlight, Media, MayLeave, image_of}
+use Rattle.lvm_disk.specs.Device.{Device, Flight, Image, IsInFlight, Media, image_of}
 use Rattle.lvm_kept.specs.Contents.{Contents, contents_of}
 use Rattle.lvm_kept.specs.Group.{members_in}
 use Rattle.lvm_kept.specs.Kept.{Kept}
@@ -33,7 +32,7 @@ use Rattle.lvm_kept.proofs.CommittedLemmas.Finding.{finding_reads, images_within
 use Rattle.lvm_steps.specs.Moments.{HistoryHolds, ImagesKept}
 use Rattle.lvm_steps.specs.Requests.{at}
 use Rattle.lvm_steps.specs.Committing.{DiffersInVolume}
-use Rattle.lvm_commit.specs.LawsOfVolumes.{VolumeServes, VolumesServe}
+use Rattle.lvm_commit.specs.LawsOfVolumes.{VolumesServe}
 use Rattle.lvm_commit.specs.Settling.{IsOf, SessionIsHeld}
 use Rattle.lvm_commit.proofs.LawsOfVolumesLemmas.Volumes.{one_serves}
 use Rattle.lvm_mwc.specs.Cache.{flight_on}
@@ -46,26 +45,25 @@ use Rattle.lvm_session.specs.declared.open.Open.{Open}
 use Rattle.lvm_session.specs.declared.bringing.OpenCopy.{OpenCopy}
 use Rattle.lvm_session.specs.declared.flown.Owner.TheVariants as owner
 use Rattle.lvm_session.specs.State.{Core, State}
-use Rattle.lvm_session.specs.Bringing.{has_row, is_out, is_whole}
+use Rattle.lvm_session.specs.Bringing.{has_row}
 use Rattle.lvm_session.specs.Dark.{landings as all_landings}
 use Rattle.lvm_session.specs.Judging.{is_running, is_waiting, place_of}
 use Rattle.lvm_session.specs.Owners.{flies, target_flies}
-use Rattle.lvm_invariant.specs.State.{Beside, Flying, Groups, ModelCopy, ModelState, Queued, covers, told, write_in}
-use Rattle.lvm_invariant.specs.Found.{Found, Votes}
+use Rattle.lvm_invariant.specs.State.{Flying, Groups, ModelCopy, ModelState, Queued, covers, told, write_in}
+use Rattle.lvm_invariant.specs.Found.{Found}
 use Rattle.lvm_invariant.specs.Good.{Good}
 use Rattle.lvm_invariant.specs.Events.{Want}
 use Rattle.lvm_invariant.specs.Off.{GoesOff}
-use Rattle.lvm_invariant.specs.Over.{AreOpen, IsLegalOver, landings}
+use Rattle.lvm_invariant.specs.Over.{AreOpen, landings}
 use Rattle.lvm_invariant.specs.Want.{Wants}
 use Rattle.lvm_invariant.proofs.CrashLemmas.{core_kept}
 use Rattle.lvm_invariant.proofs.EventsLemmas.Each.{each_keeps}
 use Rattle.lvm_invariant.proofs.OverLemmas.{cut_keeps, off_keeps}
-use Rattle.lvm_crash.specs.Flights.{HasOut, Matches}
+use Rattle.lvm_crash.specs.Flights.{Matches}
 use Rattle.lvm_crash.specs.Laws.{EachViewAgrees}
 use Rattle.lvm_crash.specs.Session.{Describes, HasVolumes, Shows}
 use Rattle.lvm_crash.proofs.LawsLemmas.Images.{images_kept, last_images_kept}
 use Rattle.lvm_even.specs.Members.{members_showing}
-use Rattle.lvm_places.specs.Laws.{replaced}
 use Rattle.lvm_places.proofs.LawsLemmas.{place_is_taken}
 use Rattle.lvm_move_laws.specs.Serving.{IsFoundSo}
 use Rattle.lvm_move_laws.proofs.MovingLemmas.{moved_is_described}

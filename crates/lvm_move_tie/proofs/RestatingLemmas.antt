@@ -1,5 +1,5 @@
 -- A good state stays good where its statuses are written anew.
-use Rattle.std.proofs.Common.{◌≡◌, ◌⊎◌, inl, inr, ⊎_elim, ℕ, Bool, true, false, ◌&&◌, List, Option, Some, None, refl, sym, ap, ◌∙◌}
+use Rattle.std.proofs.Common.{◌≡◌, ◌⊎◌, inl, inr, ⊎_elim, ℕ, Bool, true, false, ◌&&◌, Some, None}
 use Rattle.std.specs.Prelude.{IsTrue, IsFalse}
 use Rattle.std.proofs.lemmas.Bool.{cases_Bool}
 use Rattle.lvm_num.specs.declared.place.Pp.{Pp}
@@ -7,8 +7,7 @@ use Rattle.lvm_num.specs.Geometry.{track_group_of}
 use Rattle.lvm_num.proofs.Booleans.{clash_gives}
 use Rattle.lvm_invariant.specs.State.{ModelState, Named, HasPassed, Live, Queued, Started, covers, is_settled_stale}
 use Rattle.lvm_invariant.specs.Found.{Found, Votes}
-use Rattle.lvm_invariant.specs.Good.{Good}
-use Rattle.lvm_invariant.specs.Sound.{Agree, Behind, Blocks, Busy, DifferDirty, MayDiffer, ModelHolds, Notes, Quiescent, Recorded, Sound, Statuses, Tied}
+use Rattle.lvm_invariant.specs.Sound.{Agree, Blocks, Busy, MayDiffer, ModelHolds, Quiescent, Recorded, Sound, Statuses, Tied}
 use Rattle.lvm_move_tie.specs.Restating.{MayRestate, RestatingKeeps, Restatement, restated}
 
 none_is : {X A : Type 0} (a : X) → None ≡ Some a → A

@@ -1,5 +1,5 @@
 -- The next descriptor may be committed with any history with which what a loss of power may leave of the session agrees.
-use Rattle.std.proofs.Common.{◌≡◌, inl, ℕ, ◌*◌, ◌<◌, ◌≤◌, List, ◌∷◌, [], ◌++◌, Option, Some, None, refl, sym, ap, subst, ◌∙◌}
+use Rattle.std.proofs.Common.{◌≡◌, inl, ℕ, ◌*◌, List, ◌∷◌, [], ◌++◌, Option, Some, None, sym, ap, subst, ◌∙◌}
 use Rattle.std.specs.Prelude.{IsTrue, is_some}
 use Rattle.lvm_num.specs.declared.descriptor.LvRow.{LvRow}
 use Rattle.lvm_num.specs.declared.descriptor.Descriptor.{Descriptor}
@@ -13,7 +13,7 @@ use Rattle.lvm_vol.specs.Facts.{Fact, Cut}
 use Rattle.lvm_vol.specs.May.{Known, known, cut}
 use Rattle.lvm_vol.proofs.LawsLemmas.Knowing.{known-push}
 use Rattle.lvm_kept.specs.Contents.{Contents}
-use Rattle.lvm_kept.specs.Group.{members_in, status_by, ReadsGroup, IsFound, Finds, fresh_on, IsBlockOf, IsOneOf, IsSome}
+use Rattle.lvm_kept.specs.Group.{members_in, status_by, ReadsGroup, fresh_on, IsOneOf, IsSome}
 use Rattle.lvm_kept.specs.Kept.{IsBlockKept}
 use Rattle.lvm_steps.specs.Committing.{DiffersInVolume, VolumeIsServed}
 use Rattle.lvm_commit.specs.LawsOfVolumes.{VolumeServes}

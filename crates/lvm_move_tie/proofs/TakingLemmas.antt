@@ -1,6 +1,6 @@
 -- The destination of a move that is done may take the place of its copy.
 use Rattle.std.proofs.Common.{◌≡◌, ◌⊎◌, inl, inr, ⊎_elim, ℕ, ◌+◌, ◌*◌, ◌-◌, ◌/◌, ◌%◌, ◌<◌, ◌≤◌, Bool, true, false, ◌&&◌, ◌||◌, ◌==◌, not, if◌then◌else◌, List, [], Option, Some, None, refl, sym, ap, subst, ◌∙◌, arith, eqb-true}
-use Rattle.std.specs.Prelude.{IsTrue, IsFalse, nat_le, nat_lt, slice_get, unwrap_or}
+use Rattle.std.specs.Prelude.{IsTrue, IsFalse, nat_lt, slice_get, unwrap_or}
 use Rattle.std.specs.Option.{option_map, option_map_or}
 use Rattle.std.proofs.lemmas.Bool.{and_parts, cases_Bool}
 use Rattle.std.proofs.lemmas.Bool.Decides.{nat_tests}
@@ -14,24 +14,23 @@ use Rattle.lvm_num.specs.Geometry.{partition_blocks, partition_of, sector_of, tr
 use Rattle.lvm_num.specs.Record.{Stamped, stamp_lt}
 use Rattle.lvm_num.specs.Status.{calls_dirty, calls_stale}
 use Rattle.lvm_num.proofs.AmongLemmas.{one_any}
-use Rattle.lvm_num.proofs.Booleans.{clash_gives}
 use Rattle.lvm_vol.specs.Facts.{Fact}
 use Rattle.lvm_disk.specs.Device.{image_of}
 use Rattle.lvm_map.proofs.Parts.{parts, whole}
 use Rattle.lvm_map.proofs.PlacesLemmas.{mib_positive, volume_at}
 use Rattle.lvm_kept.specs.Contents.{Contents, contents_of}
-use Rattle.lvm_kept.specs.Group.{IsBlockOf, IsOneOf}
+use Rattle.lvm_kept.specs.Group.{IsOneOf}
 use Rattle.lvm_kept.proofs.ChangesLemmas.Entries.{volume_is_row}
 use Rattle.lvm_session.specs.declared.bringing.OpenCopy.{OpenCopy}
 use Rattle.lvm_session.specs.State.{Core, State}
-use Rattle.lvm_session.specs.Bringing.{groups_of, is_whole}
+use Rattle.lvm_session.specs.Bringing.{groups_of}
 use Rattle.lvm_session.specs.Calls.{copy_at}
-use Rattle.lvm_session.specs.Judging.{copies_in, is_held_stale, is_running, is_stale, is_wanted_stale}
+use Rattle.lvm_session.specs.Judging.{copies_in, is_held_stale, is_stale, is_wanted_stale}
 use Rattle.lvm_session.specs.Marks.{is_among}
 use Rattle.lvm_session.specs.Sound.{IsCopy, IsMove}
 use Rattle.lvm_session.proofs.MovesLemmas.{move_of}
 use Rattle.lvm_keeps.proofs.CacheLemmas.{no_copy}
-use Rattle.lvm_invariant.specs.State.{Beside, Marks, ModelCopy, ModelState}
+use Rattle.lvm_invariant.specs.State.{Beside, Marks, ModelState}
 use Rattle.lvm_invariant.specs.Found.{HasIt}
 use Rattle.lvm_invariant.specs.Sound.{Complete}
 use Rattle.lvm_crash.specs.Copies.{IsCopyOf}

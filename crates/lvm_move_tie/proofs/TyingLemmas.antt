@@ -2,7 +2,7 @@
 use Rattle.std.proofs.Common.{◌≡◌, ◌⊎◌, inl, inr, ⊎_elim, ℕ, ◌<◌, ◌^◌, Bool, true, false, ◌&&◌, ◌||◌, ◌==◌, not, List, [], ◌∷◌, Option, Some, None, Ok, refl, sym, ap, subst, ◌∙◌, arith, eq-eqb, eqb-true}
 use Rattle.std.specs.Prelude.{IfSome, IsTrue, IsFalse, is_some, nat_le}
 use Rattle.std.specs.List.{list_any}
-use Rattle.std.specs.Option.{option_map, option_map_or}
+use Rattle.std.specs.Option.{option_map}
 use Rattle.std.proofs.lemmas.Bool.{and_parts, cases_Bool}
 use Rattle.std.proofs.lemmas.Bool.Decides.{nat_tests}
 use Rattle.arrayvec.specs.ArrayVec.{ArrayVec}
@@ -18,9 +18,9 @@ use Rattle.lvm_num.specs.declared.record.Stamp.{Stamp}
 use Rattle.lvm_num.specs.declared.descriptor.Descriptor.{Descriptor}
 use Rattle.lvm_num.specs.declared.descriptor.LvRow.{LvRow}
 use Rattle.lvm_num.specs.declared.status.Status.{Status}
-use Rattle.lvm_num.specs.Descriptor.{IsValid, copies_of, is_member, volume_of}
+use Rattle.lvm_num.specs.Descriptor.{IsValid, copies_of, is_member}
 use Rattle.lvm_num.specs.DescriptorBytes.{descriptor_of}
-use Rattle.lvm_num.specs.Disks.{Disks, has}
+use Rattle.lvm_num.specs.Disks.{has}
 use Rattle.lvm_num.specs.Record.{Stamped, stamp_lt}
 use Rattle.lvm_num.specs.Status.{calls_dirty, calls_missing, calls_stale}
 use Rattle.lvm_num.specs.Votes.{CanWrite, all_disks, is_enough_to_write, votes_in}
@@ -29,13 +29,13 @@ use Rattle.lvm_num.proofs.Lists.{of_told}
 use Rattle.lvm_vol.specs.Facts.{Fact}
 use Rattle.lvm_disk.specs.Device.{Device, Flight, HasSectors, Image, Media, AreSectors, image_of}
 use Rattle.lvm_disk.specs.Steps.{BothTold}
-use Rattle.lvm_kept.specs.Contents.{Contents, contents_of, data_at, descriptor_on, note_on}
-use Rattle.lvm_kept.specs.Group.{Finds, IsBlockOf, IsOneOf, block_at, has_room, is_named, is_of, members_in, names_if, passes}
+use Rattle.lvm_kept.specs.Contents.{Contents, contents_of}
+use Rattle.lvm_kept.specs.Group.{IsBlockOf, IsOneOf, has_room, is_of, names_if, passes}
 use Rattle.lvm_kept.specs.Kept.{Kept}
 use Rattle.lvm_kept.specs.Plans.{ChangesBy}
 use Rattle.lvm_kept.proofs.ChangesLemmas.Entries.{volume_is_row}
 use Rattle.lvm_kept.proofs.CommittedLemmas.Finding.{images_within}
-use Rattle.lvm_steps.proofs.GroupLemmas.Members.{member_of_parts, parts_of}
+use Rattle.lvm_steps.proofs.GroupLemmas.Members.{member_of_parts}
 use Rattle.lvm_steps.proofs.MakingLemmas.Making.{media_may}
 use Rattle.lvm_rec.specs.declared.homes.Homes.{Homes}
 use Rattle.lvm_status.specs.Update.{Stored, members_there, seen, Updates}
@@ -43,23 +43,19 @@ use Rattle.lvm_commit.specs.Committed.{HoldsCommitted, next_stamp}
 use Rattle.lvm_commit.specs.LawsOfVolumes.{LeavesOthers}
 use Rattle.lvm_commit.specs.Settling.{ComesHeld, CommitLeaves, EndsCommitted, HasAnother, IsOfCommit, IsPassedOver, IsPlain, OthersAreLeft, SessionIsHeld, there}
 use Rattle.lvm_commit.proofs.LawsLemmas.Found.{shows_group}
-use Rattle.lvm_mwc.specs.declared.notes.DiskNotes.{DiskNotes}
-use Rattle.lvm_mwc.specs.Cache.{flight_on, notes_on}
+use Rattle.lvm_mwc.specs.Cache.{flight_on}
 use Rattle.lvm_session.specs.declared.bringing.OpenCopy.{OpenCopy}
-use Rattle.lvm_session.specs.declared.flown.Flown.{Flown}
 use Rattle.lvm_session.specs.declared.flown.Owner.TheVariants as owner
 use Rattle.lvm_session.specs.State.{Core, State, is_there, state}
-use Rattle.lvm_session.specs.Judging.{is_running}
 use Rattle.lvm_session.specs.Marks.{Reviews, is_entailed}
 use Rattle.lvm_session.specs.Sound.{IsGoing, IsSound}
-use Rattle.lvm_invariant.specs.State.{Beside, Marks, ModelState, Queued, is_settled_stale}
+use Rattle.lvm_invariant.specs.State.{Marks, ModelState}
 use Rattle.lvm_invariant.specs.Good.{Good}
 use Rattle.lvm_invariant.specs.Want.{Replaced, Wants}
 use Rattle.lvm_crash.specs.Session.{Describes, GroupStands, HasVolumes, as_marks, marks_of, marks_shown}
 use Rattle.lvm_even.specs.Members.{members_showing}
 use Rattle.lvm_move_laws.specs.Standing.{IsAlone}
 use Rattle.lvm_move_laws.proofs.StandingLemmas.{next_stands}
-use Rattle.lvm_move.specs.Moving.{GoesOnMoved}
 use Rattle.lvm_move_keeps.specs.Drained.{IsDrainedMoving}
 use Rattle.lvm_move_keeps.specs.Keeping.{HasMovedTo}
 use Rattle.lvm_move_keeps.proofs.StandsLemmas.{move_has_moved}

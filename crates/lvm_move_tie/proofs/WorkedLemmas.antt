@@ -1,23 +1,20 @@
 -- The written-out session whose second copy has moved meets what is asked of one.
-use Rattle.std.proofs.Common.{◌≡◌, ◌⊎◌, ◌↔◌, inl, inr, ⊎_elim, ℕ, zero, suc, ◌<◌, ◌/◌, Bool, true, false, ◌&&◌, ◌||◌, ◌==◌, if◌then◌else◌, List, [], ◌∷◌, Option, Some, None, refl, sym, ap, subst, ◌∙◌, arith, eqb-true, eq-eqb}
+use Rattle.std.proofs.Common.{◌≡◌, ◌⊎◌, ◌↔◌, inl, inr, ⊎_elim, ℕ, zero, suc, ◌<◌, ◌/◌, Bool, true, false, ◌||◌, ◌==◌, if◌then◌else◌, [], ◌∷◌, Option, Some, None, refl, sym, ap, subst, ◌∙◌, arith, eqb-true, eq-eqb}
 use Rattle.std.specs.Prelude.{IsTrue, IsFalse, nat_lt, slice_get}
-use Rattle.std.proofs.lemmas.Bool.{cases_Bool}
 use Rattle.std.proofs.lemmas.Bool.Decides.{nat_tests}
 use Rattle.lvm_num.specs.declared.place.Pp.{Pp}
 use Rattle.lvm_num.specs.declared.descriptor.Mode.{Mode}
 use Rattle.lvm_num.specs.declared.descriptor.Mode.TheVariants.{Active, Passive, Off}
 use Rattle.lvm_num.specs.declared.descriptor.LvRow.{LvRow}
-use Rattle.lvm_num.specs.declared.descriptor.Descriptor.{Descriptor}
 use Rattle.lvm_num.specs.declared.status.Status.{Status}
 use Rattle.lvm_num.specs.Buffer.{zero_sector}
 use Rattle.lvm_num.specs.Descriptor.{copies_of, is_pp}
 use Rattle.lvm_num.specs.Geometry.{partition_of}
 use Rattle.lvm_num.specs.Modes.{is_active, is_passive}
-use Rattle.lvm_num.specs.Record.{Stamped, stamp_lt}
+use Rattle.lvm_num.specs.Record.{Stamped}
 use Rattle.lvm_num.specs.Status.{calls_stale}
-use Rattle.lvm_num.proofs.Booleans.{and_false, clash_gives, first_holds, not_so, second_holds, some_if}
-use Rattle.lvm_vol.specs.declared.entry.Vol.TheVariants.{Lv}
-use Rattle.lvm_vol.specs.May.{IsValue, Known, is_off, known, unknown}
+use Rattle.lvm_num.proofs.Booleans.{clash_gives, first_holds, not_so, second_holds, some_if}
+use Rattle.lvm_vol.specs.May.{IsValue, Known, is_off, unknown}
 use Rattle.lvm_kept.specs.Contents.{Contents}
 use Rattle.lvm_kept.specs.Examples.{either_of, mirror, two}
 use Rattle.lvm_kept.specs.Group.{IsOneOf}
@@ -26,18 +23,17 @@ use Rattle.lvm_even.proofs.ExamplesLemmas.Examples.{valid}
 use Rattle.lvm_even.proofs.ExamplesLemmas.Slots.{first_partition}
 use Rattle.lvm_even.proofs.Lists.{both_of}
 use Rattle.lvm_invariant.specs.State.{Beside, Marks, ModelCopy, ModelState}
-use Rattle.lvm_invariant.specs.First.{at_rest, first_copy, is_either, second_copy, two_disks}
+use Rattle.lvm_invariant.specs.First.{first_copy, is_either, second_copy, two_disks}
 use Rattle.lvm_invariant.specs.Found.{HasIt, Votes}
 use Rattle.lvm_invariant.specs.Good.{Good}
 use Rattle.lvm_invariant.specs.Sound.{Sound}
 use Rattle.lvm_invariant.proofs.ToldLemmas.{told_of_none}
 use Rattle.lvm_crash.specs.Session.{AreVotesOf, Describes, HasStatuses, HasVolumes, IsFreePlace, IsPlaceOf, as_marks, marks_of, marks_shown}
-use Rattle.lvm_crash.specs.Worked.{Shown}
 use Rattle.lvm_crash.proofs.WorkedLemmas.Worked.{enough, its_marks, on_either, stands, volumes}
-use Rattle.lvm_places.specs.Places.{Marking, SeesRecords, placed}
+use Rattle.lvm_places.specs.Places.{SeesRecords, placed}
 use Rattle.lvm_places.specs.Laws.{AgreesBut, Replaces, copies_without}
 use Rattle.lvm_moved.specs.Moved.{MayStandOn}
-use Rattle.lvm_move_laws.specs.Moving.{IsFor, MovesIn}
+use Rattle.lvm_move_laws.specs.Moving.{IsFor}
 use Rattle.lvm_move_laws.specs.Committing.{MayTakePlace}
 use Rattle.lvm_move_tie.specs.Worked.{PlacesMayBeTaken, as_they_stand, free_partition, is_block, its_place, moved_group, moved_state, nothing_stale, shown_disks}
 use Rattle.lvm_move_tie.proofs.MovedLemmas.{differs_in, moves_in}

@@ -1,5 +1,5 @@
 -- The descriptor in which a copy stands on another partition, by the copies of its volumes.
-use Rattle.std.specs.Prelude.{◌≡◌, ℕ, ◌-◌, true, Some, slice_get}
+use Rattle.std.specs.Prelude.{◌≡◌, ℕ, ◌-◌, Some, slice_get}
 use Rattle.lvm_num.specs.declared.place.Pp.{Pp}
 use Rattle.lvm_num.specs.declared.descriptor.Descriptor.{Descriptor}
 use Rattle.lvm_num.specs.Descriptor.{IsValid, copies_of}
