@@ -1,0 +1,11 @@
+pub mod MovedLemmas
+pub mod WorkedLemmas
+pub mod TakingLemmas
+pub mod ServingLemmas
+pub mod LongerLemmas
+pub mod OverLemmas
+pub mod RestatingLemmas
+pub mod HeldLemmas
+pub mod ChangesLemmas
+pub mod TyingLemmas
+pub mod GoingLemmas
