@@ -244,8 +244,8 @@ fn commit_under<S: Shelf + Drop>(
 // The eight track groups take 32 calls. The power is cut at each call about the commit: some find it dark, one doesn't.
 #[test]
 fn a_commit_in_the_dark(rt: HostRuntime) {
-    let mut dark = 0;
-    let mut done = 0;
+    let mut dark = 0_u32;
+    let mut done = 0_u32;
     for call in 30..70 {
         let cut = [Planned {
             call,
@@ -253,10 +253,10 @@ fn a_commit_in_the_dark(rt: HostRuntime) {
         }];
         match commit_under(&rt, begin(&rt, &MIRROR, &cut), 1_000) {
             None => {}
-            Some(Ok(())) => done += 1,
+            Some(Ok(())) => done = done.saturating_add(1),
             Some(Err(why)) => {
                 check(&rt, why == CommitFault::Dark, "dark");
-                dark += 1;
+                dark = dark.saturating_add(1);
             }
         }
     }
@@ -267,14 +267,14 @@ fn a_commit_in_the_dark(rt: HostRuntime) {
 // Nothing is heard of one of its transfers, with no patience.
 #[test]
 fn a_commit_is_given_up_without_patience(rt: HostRuntime) {
-    let mut stuck = 0;
+    let mut stuck = 0_u32;
     for call in 30..70 {
         let delay = [Planned {
             call,
             act: Act::Delay(2),
         }];
         if commit_under(&rt, begin(&rt, &MIRROR, &delay), 0) == Some(Err(CommitFault::Stuck)) {
-            stuck += 1;
+            stuck = stuck.saturating_add(1);
         }
     }
     check(&rt, stuck >= 3, "at each start of it");
