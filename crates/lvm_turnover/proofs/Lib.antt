@@ -2,6 +2,7 @@ pub mod BeginningLemmas
 pub mod LeavingLemmas
 pub mod LeftLemmas
 pub mod MarksLemmas
+pub mod OutLemmas
 pub mod OverLemmas
 pub mod PhaseLemmas
 pub mod SendingLemmas

@@ -1,5 +1,5 @@
 //! A group that is on turns to a next descriptor, by which it has the same members.
-ghost use Rattle.std.specs.Prelude.{◌≡◌, IfOk};
+ghost use Rattle.std.specs.Prelude.{◌≡◌, [], IfOk};
 ghost use Rattle.lvm_num.specs.Descriptor.{IsValid};
 ghost use Rattle.lvm_commit.specs.Settling.{MarksLeft};
 ghost use Rattle.lvm_session.specs.State.{is_there};
@@ -7,7 +7,7 @@ ghost use Rattle.lvm_core.specs.State.{state_of};
 ghost use Rattle.lvm_core.specs.Settled.{IsSettled, HasSpareNumbers};
 ghost use Rattle.lvm_change_laws.specs.Rule.{MayChangeRule};
 ghost use Rattle.lvm_turnover.specs.Turning.{IsReadyFor};
-ghost use Rattle.lvm_turnover.specs.Changing.{ChangeEnds, ChangeLeaves};
+ghost use Rattle.lvm_turnover.specs.Changing.{IsNext, ChangeEnds, ChangeLeaves};
 
 use crate::turning::turn_session;
 use lvm_change::Records;
@@ -25,10 +25,20 @@ pub struct Change {
     pub records: Records,
     /// The status of a session once they stand.
     pub updater: Updater,
+    /// The member that leaves with it, where one does.
+    pub leaving: Option<Leaving>,
+}
+
+/// A member that leaves its group.
+#[derive(Drop)]
+pub struct Leaving {
+    pub disk: u16,
+    /// The status with which the session began, in the rows of the members that stay.
+    pub origin: StaleTable,
 }
 
 impl Change {
-    /// Takes all the memory of the change of a group with this committed status to its next descriptor.
+    /// Takes all the memory of the change of a group with this committed status to its next descriptor, by which no member leaves.
     pub fn new(alloc: Global, table: &StaleTable, next: Descriptor) -> Result<Change, Memory>
         requires { IsValid next }
         ensures next { IfOk result (λ c. c.records.next ≡ next) }
@@ -37,7 +47,11 @@ impl Change {
         let records = Records::new(alloc, table, next)?;
         let told = StaleTable::from_status(alloc, records.told.as_status())?;
         let updater = Updater::new(alloc, told, &records.next)?;
-        Ok(Change { records, updater })
+        Ok(Change {
+            records,
+            updater,
+            leaving: None,
+        })
     }
 }
 
@@ -63,14 +77,13 @@ pub fn make_change<S: Shelf>(
     ensures ends { ChangeEnds change.records.next patience.old.left (state_of S.device driver) (state_of S.device result.0) result.1 }
     // whatever the answer
     ensures left { MarksLeft change.records.next driver.1.status result.0.1.status }
-    ensures leaves { ChangeLeaves change.records.next patience.old.left patience.new.left (state_of S.device driver) (state_of S.device result.0) }
+    ensures leaves { ChangeLeaves (IsNext change.records.next) [] [] patience.old.left patience.new.left (state_of S.device driver) (state_of S.device result.0) }
 {
     let (mut shelf, mut session) = driver.into_parts();
     let answer = turn_session(
         &mut session,
         &mut shelf,
-        change.records,
-        change.updater,
+        change,
         patience,
     );
     (CommandDriver::from_parts(shelf, session), answer)

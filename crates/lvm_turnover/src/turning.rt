@@ -15,8 +15,10 @@ ghost use Rattle.lvm_core.specs.Sound.{HasNoneOpen};
 ghost use Rattle.lvm_core.specs.Committing.{with_one_out};
 ghost use Rattle.lvm_core.specs.Steps.{EndsAs};
 ghost use Rattle.lvm_change.specs.Parting.{PartsWith};
-ghost use Rattle.lvm_turnover.specs.Turning.{MaySend, MayTurnSession, IsSent, IsSettledBy, TurnsSession};
+ghost use Rattle.lvm_mwc.specs.Cache.{flight_on};
+ghost use Rattle.lvm_turnover.specs.Turning.{MaySend, MayTurnSession, IsSent, IsSettledBy, TurnsSession, core_after};
 
+use crate::change::{Change, Leaving};
 use lvm_change::{Records, Turned, next_stamp, part_with, turn_over, without};
 use lvm_commit::{CommitEnd, commit_status};
 use lvm_core::CommitFault;
@@ -26,27 +28,33 @@ use lvm_num::{Descriptor, DiskSet, Pbuf};
 use lvm_session::{Session, darken};
 use lvm_status::{Updater, members_there};
 
-/// Turns a session to the next descriptor of its group. The members that weren't reached become missing, and a status says so before the call
-/// answers. It takes no memory.
+/// Turns a session to the next descriptor of its group, without the member that leaves, where one does. The members that weren't reached become
+/// missing, and a status says so before the call answers. It takes no memory.
 pub fn turn_session<S: Shelf>(
     session: &mut Session,
     shelf: &mut S,
-    records: Records,
-    updater: Updater,
+    change: Change,
     patience: &mut Patience,
 ) -> Result<(), CommitFault>
     requires some { 1 ≤ length session.old.pool }
     requires buffers { session.old.pool ≡ replicate (length session.old.pool) false }
     requires none { HasNoneOpen (core_of session.old) }
     requires bytes { 131072 ≤ length session.old.bytes.items }
-    requires may { MayTurnSession (record { records = records; updater = updater }) (state (S.device shelf.old) (core_of session.old)) }
-    ensures does { TurnsSession (record { records = records; updater = updater }) patience.old.left patience.new.left (state (S.device shelf.old) (core_of session.old)) (state (S.device shelf.new) (core_of session.new)) result }
+    requires may { MayTurnSession change (state (S.device shelf.old) (core_of session.old)) }
+    ensures does { TurnsSession change patience.old.left patience.new.left (state (S.device shelf.old) (core_of session.old)) (state (S.device shelf.new) (core_of session.new)) result }
     ensures rooms { SameRooms session.old session.new }
 {
+    let Change {
+        records,
+        updater,
+        leaving,
+    } = change;
     let there = members_there(&session.descriptor, session.updater.wanted());
+    let stay = members_there(&records.next, session.updater.wanted());
     match send(session, shelf, &records, there, patience) {
         Turned::Done { written, buf } => {
-            take_over(session, records.next, updater, without(there, written));
+            let lost = without(stay, written);
+            take_over(session, records.next, updater, leaving, lost);
             settle(session, shelf, buf, patience)
         }
         Turned::WentOff {
@@ -109,14 +117,21 @@ fn send<S: Shelf>(
     )
 }
 
-// The session is one of the next descriptor, with the status that stands on its disks; these members are wanted missing.
-fn take_over(session: &mut Session, next: Descriptor, updater: Updater, lost: DiskSet)
+// The session is one of the next descriptor, without the member that leaves, and with the status that stands on its disks; these members are wanted missing.
+fn take_over(
+    session: &mut Session,
+    next: Descriptor,
+    updater: Updater,
+    leaving: Option<Leaving>,
+    lost: DiskSet,
+)
     requires valid { IsValid next }
     requires own { IsOf next updater }
     requires idle { updater.in_flight ≡ None }
     requires rows { HasItsRows updater.group updater.wanted }
     requires members { (disk : ℕ) → IsTrue (has lost disk) → IsTrue (is_member next disk) }
-    ensures core { core_of session.new ≡ record (core_of session.old) { descriptor = next; status = session.new.updater } }
+    requires still { (disk : ℕ) → flight_on session.old.cache disk ≡ None }
+    ensures core { core_of session.new ≡ record (core_after leaving (core_of session.old)) { descriptor = next; status = session.new.updater } }
     ensures parts { PartsWith next (has lost) (record updater { stamp = session.old.updater.stamp }) session.new.updater }
     ensures rooms { SameRooms session.old session.new }
 {
@@ -125,6 +140,19 @@ fn take_over(session: &mut Session, next: Descriptor, updater: Updater, lost: Di
     part_with(&next, &mut updater, lost);
     session.updater = updater;
     session.descriptor = next;
+    let_go(session, leaving);
+}
+
+// The session goes on without the notes of the member that leaves, where one does, and with the rows of those that stay.
+fn let_go(session: &mut Session, leaving: Option<Leaving>)
+    requires still { (disk : ℕ) → flight_on session.old.cache disk ≡ None }
+    ensures core { core_of session.new ≡ core_after leaving (core_of session.old) }
+    ensures rooms { SameRooms session.old session.new }
+{
+    if let Some(Leaving { disk, origin }) = leaving {
+        session.cache.dismiss(disk);
+        session.origin.table = origin;
+    }
 }
 
 // The session goes off with its descriptor; these members are wanted missing.

@@ -22,23 +22,23 @@ use Rattle.lvm_turnover.proofs.turning.turn_session.Goals as goal
 pub send-requires-clause-may : goal.send-requires-clause-may
 send-requires-clause-may g c =
     let self = c.args.session.now in
-    may_send (record { records = c.args.records; updater = c.args.updater }) (has c.members_there-there.result) (state (g.S.Shelf.device c.args.shelf.now) (core_of self)) c.requires.may
+    may_send c.args.change (has c.members_there-there.result) (state (g.S.Shelf.device c.args.shelf.now) (core_of self)) c.requires.may
     (c.members_there-there.ensures ∙ ap (λ (s : Status). members_there self.descriptor s) c.wanted.ensures)
 
 pub take_over-requires-clause-own : goal.take_over-requires-clause-own
-take_over-requires-clause-own g c = begun_of (record { records = c.args.records; updater = c.args.updater }) (state (g.S.Shelf.device c.args.shelf.now) (core_of c.args.session.now)) c.requires.may
+take_over-requires-clause-own g c = begun_of c.args.change (state (g.S.Shelf.device c.args.shelf.now) (core_of c.args.session.now)) c.requires.may
 
 pub take_over-requires-clause-idle : goal.take_over-requires-clause-idle
-take_over-requires-clause-idle g c = begun_idle (record { records = c.args.records; updater = c.args.updater }) (state (g.S.Shelf.device c.args.shelf.now) (core_of c.args.session.now)) c.requires.may
+take_over-requires-clause-idle g c = begun_idle c.args.change (state (g.S.Shelf.device c.args.shelf.now) (core_of c.args.session.now)) c.requires.may
 
 pub take_over-requires-clause-rows : goal.take_over-requires-clause-rows
-take_over-requires-clause-rows g c = begun_own_rows (record { records = c.args.records; updater = c.args.updater }) (state (g.S.Shelf.device c.args.shelf.now) (core_of c.args.session.now)) c.requires.may
+take_over-requires-clause-rows g c = begun_own_rows c.args.change (state (g.S.Shelf.device c.args.shelf.now) (core_of c.args.session.now)) c.requires.may
 
 pub take_over-requires-clause-members : goal.take_over-requires-clause-members
 take_over-requires-clause-members g c =
     let self = c.args.session.now in
     let there_is = c.members_there-there.ensures ∙ ap (λ (s : Status). members_there self.descriptor s) c.wanted.ensures in
-    λ disk is. unreached_next (record { records = c.args.records; updater = c.args.updater }) (state (g.S.Shelf.device c.args.shelf.now) (core_of self)) c.requires.may c.in-Done.written disk
+    λ disk is. unreached_next c.args.change (state (g.S.Shelf.device c.args.shelf.now) (core_of self)) c.requires.may c.in-Done.written disk
     (subst (λ (set : Disks). IsTrue (set disk)) (c.without.ensures ∙ ap (λ (set : Disks). written_well set (has c.in-Done.written)) there_is) is)
 
 pub settle-requires-clause-may : goal.settle-requires-clause-may
@@ -49,7 +49,7 @@ settle-requires-clause-may g c =
     let there_is = c.members_there-there.ensures ∙ ap (λ (s : Status). members_there self.descriptor s) c.wanted.ensures in
     let first : Stored = c.take_over.new.session.updater in
     subst (λ (d : Descriptor). MayCommit 1 d first m) (sym (ap (λ (k : Core). k.descriptor) c.take_over.ensures.core))
-    (over_may (record { records = c.args.records; updater = c.args.updater }) c.args.patience.now.left c.send.new.patience.left old m (core_of c.send.new.session) (has c.members_there-there.result) c.in-Done.written c.in-Done.buf there_is c.in-Done.ensures.sent c.requires.may c.without.result c.without.ensures first c.take_over.ensures.parts)
+    (over_may c.args.change c.args.patience.now.left c.send.new.patience.left old m (core_of c.send.new.session) (has c.members_there-there.result) c.in-Done.written c.in-Done.buf there_is c.in-Done.ensures.sent c.requires.may c.without.result c.without.ensures first c.take_over.ensures.parts)
 
 pub settle-requires-clause-bytes : goal.settle-requires-clause-bytes
 settle-requires-clause-bytes g c =
@@ -61,19 +61,19 @@ settle-requires-clause-bytes g c =
 pub settle-requires-clause-none : goal.settle-requires-clause-none
 settle-requires-clause-none g c =
     let sent = c.in-Done.ensures.sent in
-    subst HasNoneOpen (sym (c.take_over.ensures.core ∙ ap (λ (k : Core). record k { descriptor = c.args.records.next; status = c.take_over.new.session.updater }) sent.is)) (record { requests = c.requires.none.requests; copy = c.requires.none.copy })
+    subst HasNoneOpen (sym (c.take_over.ensures.core ∙ ap (λ (k : Core). record k { descriptor = c.args.change.records.next; status = c.take_over.new.session.updater }) sent.is)) (record { requests = c.requires.none.requests; copy = c.requires.none.copy })
 
 pub settle-requires-clause-out : goal.settle-requires-clause-out
 settle-requires-clause-out g c =
     let sent = c.in-Done.ensures.sent in
-    subst (λ (k : Core). IsOut k.pool 0) (sym (c.take_over.ensures.core ∙ ap (λ (k : Core). record k { descriptor = c.args.records.next; status = c.take_over.new.session.updater }) sent.is)) (one_is_out c.args.session.now.pool 0 refl c.requires.some)
+    subst (λ (k : Core). IsOut k.pool 0) (sym (c.take_over.ensures.core ∙ ap (λ (k : Core). record k { descriptor = c.args.change.records.next; status = c.take_over.new.session.updater }) sent.is)) (one_is_out c.args.session.now.pool 0 refl c.requires.some)
 
 pub settle-requires-clause-number : goal.settle-requires-clause-number
 settle-requires-clause-number g c =
     let self = c.args.session.now in
     let old : State = state (g.S.Shelf.device c.args.shelf.now) (core_of self) in
     let there_is = c.members_there-there.ensures ∙ ap (λ (s : Status). members_there self.descriptor s) c.wanted.ensures in
-    done_number (record { records = c.args.records; updater = c.args.updater }) c.args.patience.now.left c.send.new.patience.left old (g.S.Shelf.device c.send.new.shelf) (core_of c.send.new.session) (has c.members_there-there.result) c.in-Done.written c.in-Done.buf there_is c.in-Done.ensures.sent c.requires.may
+    done_number c.args.change c.args.patience.now.left c.send.new.patience.left old (g.S.Shelf.device c.send.new.shelf) (core_of c.send.new.session) (has c.members_there-there.result) c.in-Done.written c.in-Done.buf there_is c.in-Done.ensures.sent c.requires.may
 
 pub returns-in-Done-clause-does : goal.returns-in-Done-clause-does
 returns-in-Done-clause-does g c =
@@ -86,8 +86,8 @@ returns-in-Done-clause-does g c =
     let q = c.send.new.patience.left in
     let r = c.settle.new.patience.left in
     let sent = c.in-Done.ensures.sent in
-    turns (record { records = c.args.records; updater = c.args.updater }) p q r old new m (core_of c.send.new.session) (has c.members_there-there.result) _ c.settle.result there_is sent
-    (takes_over (record { records = c.args.records; updater = c.args.updater }) p q r old new m (core_of c.send.new.session) (has c.members_there-there.result) _ c.settle.result there_is sent c.in-Done.written c.without.result c.without.ensures c.take_over.new.session.updater (core_of c.take_over.new.session)
+    turns c.args.change p q r old new m (core_of c.send.new.session) (has c.members_there-there.result) _ c.settle.result there_is sent
+    (takes_over c.args.change p q r old new m (core_of c.send.new.session) (has c.members_there-there.result) _ c.settle.result there_is sent c.in-Done.written c.without.result c.without.ensures c.take_over.new.session.updater (core_of c.take_over.new.session)
     c.take_over.ensures.core c.take_over.ensures.parts c.settle.ensures.settles)
 
 pub give_up-requires-clause-valid : goal.give_up-requires-clause-valid
@@ -107,7 +107,7 @@ give_up-requires-clause-members g c =
     let self = c.args.session.now in
     let there_is = c.members_there-there.ensures ∙ ap (λ (s : Status). members_there self.descriptor s) c.wanted.ensures in
     λ disk is. subst (λ (k : Core). IsTrue (is_member k.descriptor disk)) (sym c.in-WentOff.ensures.sent.is)
-    (unreached_member (record { records = c.args.records; updater = c.args.updater }) (state (g.S.Shelf.device c.args.shelf.now) (core_of self)) c.requires.may c.in-WentOff.written disk
+    (unreached_member c.args.change (state (g.S.Shelf.device c.args.shelf.now) (core_of self)) c.requires.may c.in-WentOff.written disk
     (subst (λ (set : Disks). IsTrue (set disk)) (c.without-in-WentOff.ensures ∙ ap (λ (set : Disks). written_well set (has c.in-WentOff.written)) there_is) is))
 
 pub give_up-requires-clause-out : goal.give_up-requires-clause-out
@@ -115,7 +115,7 @@ give_up-requires-clause-out g c =
     let self = c.args.session.now in
     let old : State = state (g.S.Shelf.device c.args.shelf.now) (core_of self) in
     let there_is = c.members_there-there.ensures ∙ ap (λ (s : Status). members_there self.descriptor s) c.wanted.ensures in
-    let number = off_number (record { records = c.args.records; updater = c.args.updater }) c.args.patience.now.left c.send.new.patience.left old (g.S.Shelf.device c.send.new.shelf) (core_of c.send.new.session) (has c.members_there-there.result) c.in-WentOff.have c.in-WentOff.total c.in-WentOff.written c.in-WentOff.buf there_is c.in-WentOff.ensures.sent in
+    let number = off_number c.args.change c.args.patience.now.left c.send.new.patience.left old (g.S.Shelf.device c.send.new.shelf) (core_of c.send.new.session) (has c.members_there-there.result) c.in-WentOff.have c.in-WentOff.total c.in-WentOff.written c.in-WentOff.buf there_is c.in-WentOff.ensures.sent in
     subst (λ (k : Core). IsOut k.pool c.in-WentOff.buf.number) (sym c.in-WentOff.ensures.sent.is) (one_is_out self.pool c.in-WentOff.buf.number number c.requires.some)
 
 pub returns-in-WentOff-clause-does : goal.returns-in-WentOff-clause-does
@@ -127,10 +127,10 @@ returns-in-WentOff-clause-does g c =
     let p = c.args.patience.now.left in
     let q = c.send.new.patience.left in
     let new : Core = core_of c.give_up.new.session in
-    turns (record { records = c.args.records; updater = c.args.updater }) p q q old (state m new) m (core_of c.send.new.session) (has c.members_there-there.result) _ _ there_is c.in-WentOff.ensures.sent (
+    turns c.args.change p q q old (state m new) m (core_of c.send.new.session) (has c.members_there-there.result) _ _ there_is c.in-WentOff.ensures.sent (
       refl,
       refl,
-      gives_up (record { records = c.args.records; updater = c.args.updater }) p q old m (core_of c.send.new.session) (has c.members_there-there.result) c.in-WentOff.have c.in-WentOff.total c.in-WentOff.written c.in-WentOff.buf there_is c.in-WentOff.ensures.sent c.requires.buffers
+      gives_up c.args.change p q old m (core_of c.send.new.session) (has c.members_there-there.result) c.in-WentOff.have c.in-WentOff.total c.in-WentOff.written c.in-WentOff.buf there_is c.in-WentOff.ensures.sent c.requires.buffers
           c.without-in-WentOff.result c.without-in-WentOff.ensures new c.give_up.ensures.core c.give_up.ensures.parts,
     )
 
@@ -144,7 +144,7 @@ returns-in-Dark-clause-does g c =
     let there_is = c.members_there-there.ensures ∙ ap (λ (s : Status). members_there self.descriptor s) c.wanted.ensures in
     let q = c.send.new.patience.left in
     let m = g.S.Shelf.device c.send.new.shelf in
-    turns (record { records = c.args.records; updater = c.args.updater }) c.args.patience.now.left q q old (state m (core_of c.darken.new.session)) m (core_of c.send.new.session) (has c.members_there-there.result) _ _ there_is c.in-Dark.ensures.sent
+    turns c.args.change c.args.patience.now.left q q old (state m (core_of c.darken.new.session)) m (core_of c.send.new.session) (has c.members_there-there.result) _ _ there_is c.in-Dark.ensures.sent
     (refl, refl, refl, c.darken.ensures.core ∙ ap all_dark c.in-Dark.ensures.sent.is)
 
 pub returns-in-Stuck-clause-does : goal.returns-in-Stuck-clause-does
@@ -154,5 +154,5 @@ returns-in-Stuck-clause-does g c =
     let there_is = c.members_there-there.ensures ∙ ap (λ (s : Status). members_there self.descriptor s) c.wanted.ensures in
     let q = c.send.new.patience.left in
     let m = g.S.Shelf.device c.send.new.shelf in
-    turns (record { records = c.args.records; updater = c.args.updater }) c.args.patience.now.left q q old (state m (core_of c.send.new.session)) m (core_of c.send.new.session) (has c.members_there-there.result) _ _ there_is c.in-Stuck.ensures.sent
+    turns c.args.change c.args.patience.now.left q q old (state m (core_of c.send.new.session)) m (core_of c.send.new.session) (has c.members_there-there.result) _ _ there_is c.in-Stuck.ensures.sent
     (refl, refl, refl, c.in-Stuck.ensures.sent.is)
