@@ -325,11 +325,11 @@ module _ (group next : Descriptor) (status : Status) (there written : Disks) (st
 module _ (group next : Descriptor) (status : Status) (there written : Disks) (stamp : Stamp) (homes slots : Homes) (framed : Framed) (old new : Image) (whole : IsWholeImage old) (holds : HoldsCommitted old group status there stamp homes)
     (may : MayTurnTo (contents_of old) group next there) (frames : Frames kind.Descriptor framed) (reads : descriptor_of framed.content ≡ Ok next) (later : IsNoLater (next_stamp stamp) framed.stamp)
     (stands : StandsWritten (write_of kind.Descriptor framed there homes) written homes slots old new) where
-  abbrev one : RecordWrite
-  one = write_of kind.Descriptor framed there homes
+  abbrev to_slots : RecordWrite
+  to_slots = write_of kind.Descriptor framed there homes
 
-  both_before : (d : ℕ) → IsTrue (there d) → BothBefore (on_disk one d) (old.sector d)
-  both_before d is = later_may_go one (next_stamp stamp) old d whole holds.stamps later (holds.there d is)
+  both_before : (d : ℕ) → IsTrue (there d) → BothBefore (on_disk to_slots d) (old.sector d)
+  both_before d is = later_may_go to_slots (next_stamp stamp) old d whole holds.stamps later (holds.there d is)
 
   module _ (d : ℕ) (is : IsTrue (written d)) where
     on : IsTrue (there d)
@@ -338,12 +338,12 @@ module _ (group next : Descriptor) (status : Status) (there written : Disks) (st
     abbrev second_slot : ℕ
     second_slot = if second_slots kind.Descriptor homes d then 1 else 0
 
-    torn : IsTornWrite (on_disk one d) (old.sector d) (new.sector d)
-    torn s = ⊎_elim (λ same. inl same) (λ (of : IsOfRecord one d s (new.sector d s)). inr of.its) (stands.changes.each d s)
+    torn : IsTornWrite (on_disk to_slots d) (old.sector d) (new.sector d)
+    torn s = ⊎_elim (λ same. inl same) (λ (of : IsOfRecord to_slots d s (new.sector d s)). inr of.its) (stands.changes.each d s)
 
     -- the record went to its slot
     turned_there : ((second_slot ≡ 0) × (slot_for descriptor_of kind.Descriptor (new.sector d) ≡ 1)) ⊎ ((second_slot ≡ 1) × (slot_for descriptor_of kind.Descriptor (new.sector d) ≡ 0))
-    turned_there = turned (on_disk one d) (old.sector d) (new.sector d) frames (place_below (second_slots kind.Descriptor homes d)) torn Descriptor descriptor_of next reads (both_before d on) (stands.stands d is)
+    turned_there = turned (on_disk to_slots d) (old.sector d) (new.sector d) frames (place_below (second_slots kind.Descriptor homes d)) torn Descriptor descriptor_of next reads (both_before d on) (stands.stands d is)
 
     older : slot_for descriptor_of kind.Descriptor (new.sector d) ≡ (if second_slots kind.Descriptor homes d then 0 else 1)
     older = by (second_slots kind.Descriptor homes d) turned_there
@@ -362,7 +362,7 @@ module _ (group next : Descriptor) (status : Status) (there written : Disks) (st
 
     other_spared : next_slot kind.Status slots d ≡ slot_for status_of kind.Status (new.sector d)
     other_spared = ap (λ (t : Bool). if t then 1 else 0) (stands.flips.other kind.Status (λ e. differ (sym e)) d) ∙ (holds.homes d on).status
-        ∙ sym (other_kind (on_disk one d) (old.sector d) (new.sector d) frames (place_below (second_slots kind.Descriptor homes d)) torn status_of kind.Status (λ e. differ (sym e)))
+        ∙ sym (other_kind (on_disk to_slots d) (old.sector d) (new.sector d) frames (place_below (second_slots kind.Descriptor homes d)) torn status_of kind.Status (λ e. differ (sym e)))
 
 pub turn_is_held : TurnIsHeld
 turn_is_held group next status there written stamp homes slots framed old new whole holds may frames reads later stands enough enough_too = record {
