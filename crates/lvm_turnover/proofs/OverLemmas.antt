@@ -20,7 +20,8 @@ use Rattle.lvm_kept.specs.Plans.{ChangesBy}
 use Rattle.lvm_mwc.specs.Cache.{has_disk}
 use Rattle.lvm_mwc.specs.Entries.{AreEntries}
 use Rattle.lvm_change_laws.specs.Rule.{members_among}
-use Rattle.lvm_status.specs.Update.{Stored, members_there}
+use Rattle.lvm_status.specs.Update.{Stored, members_there, seen}
+use Rattle.lvm_status.specs.Calls.{first_updates}
 use Rattle.lvm_steps.specs.Moments.{StaysKept}
 use Rattle.lvm_rec.specs.declared.homes.Homes.{Homes}
 use Rattle.lvm_write.specs.Written.{KeepsShelf}
@@ -39,29 +40,31 @@ use Rattle.lvm_core.specs.Held.{IsHeld}
 use Rattle.lvm_core.specs.Committing.{is_in, with_one_out}
 use Rattle.lvm_core.specs.Steps.{CoreEnds}
 use Rattle.lvm_core.proofs.StepsLemmas.Ends.{core_ends, status_ends, status_numbered}
-use Rattle.lvm_change.specs.Records.{IsTurnBy}
 use Rattle.lvm_change.specs.Turn.{HoldsBy, ComesBack, HasTurned, IsBefore, IsOfTurn, TurnGives}
 use Rattle.lvm_change.specs.declared.turn.Turn.{Turn}
 use Rattle.lvm_change.specs.declared.turn.Turned.TheVariants as turned
 use Rattle.lvm_change.proofs.PartingLemmas.{parts_loses, parts_only, parts_left, parts_round, parts_forgotten}
 use Rattle.lvm_turnover.specs.declared.change.Change.{Change}
 use Rattle.lvm_turnover.specs.Changing.{IsNext}
-use Rattle.lvm_turnover.specs.Turning.{MayTurnSession, after_turn, cache_after, core_after, disks_leaving, unreached, IsSettledBy, TakesOver}
-use Rattle.lvm_turnover.proofs.BeginningLemmas.{begun, same_id, same_mib, same_volumes, still_inside, next_member, session_there, begun_group, begun_wanted, begun_missing, begun_dirty, begun_rows, begun_id, begun_forgotten, begun_there, begun_less, begun_many, copy_apart, stale_before, stale_after, missing_before, missing_after, unreached_next, unreached_was, first_there, first_reached, first_group, first_stamp, first_committed}
+use Rattle.lvm_turnover.specs.Turning.{IsTurnBy, MayTurnSession, after_turn, cache_after, core_after, disks_leaving, unreached, IsSettledBy, TakesOver}
+use Rattle.lvm_turnover.proofs.BeginningLemmas.{same_id, same_mib, same_volumes, still_inside, next_member, session_there, begun_group, begun_wanted, begun_missing, begun_dirty, begun_rows, begun_id, begun_forgotten, begun_there, begun_less, begun_many, copy_apart, stale_before, stale_after, missing_before, missing_after, unreached_next, unreached_was, first_there, first_reached, first_group, first_stamp, first_committed}
 use Rattle.lvm_turnover.proofs.LeavingLemmas.{Writes}
 use Rattle.lvm_turnover.proofs.OutLemmas.{entries_after, has_after, still_after}
 use Rattle.lvm_turnover.proofs.MarksLemmas.{marks_kept}
 use Rattle.lvm_turnover.proofs.PhaseLemmas.{before_held, turn_kept, turn_finds, turn_rises, turn_writes, unreached_failed}
 use Rattle.lvm_turnover.proofs.StandingLemmas.{Fits, fits_by}
 
-module _ (c : Change) (old : State) (may : MayTurnSession c old) (turn : Turn) (by : IsTurnBy c.records old.core.descriptor turn) (slots : Homes) (p q r : ℕ) (m : Device) (written : ℕ) (buf : Buffer)
+module _ (c : Change) (old : State) (may : MayTurnSession c old) (turn : Turn) (by : IsTurnBy c old.core.descriptor turn) (slots : Homes) (p q r : ℕ) (m : Device) (written : ℕ) (buf : Buffer)
     (gives : TurnGives turn (is_there old.core) old.core.status.stamp old.core.homes slots 0 p q old.device m (turned.Done written buf))
     (new : State) (answer : Result (Unit {0}) CommitFault) (over : TakesOver c written slots q r m old new answer) (all : old.core.pool ≡ replicate (length old.core.pool) false) where
   abbrev next : Descriptor
-  next = c.records.next
+  next = c.next
 
   abbrev b : Stored
-  b = begun c old may
+  b = over.parts.begun
+
+  abbrev bi : seen b ≡ record (first_updates c.tables.told c.tables.group) { stamp = after_turn old.core.status.stamp }
+  bi = over.parts.begun_is
 
   abbrev first : Stored
   first = over.first
@@ -83,13 +86,13 @@ module _ (c : Change) (old : State) (may : MayTurnSession c old) (turn : Turn) (
   valid = may.change.valid_next
 
   there_is : there first ≡ members_among next (has written)
-  there_is = first_there c old may written back.within first over.parts
+  there_is = first_there c old may b bi written back.within first over.parts.parts
 
   group : first.group ≡ record next { lvs = [] }
-  group = first_group c old may written back.within first over.parts
+  group = first_group c old may b bi written back.within first over.parts.parts
 
   reached : (e : ℕ) → IsTrue (there first e) → IsTrue (has written e)
-  reached = first_reached c old may written back.within first over.parts
+  reached = first_reached c old may b bi written back.within first over.parts.parts
 
   -- ---- the session
 
@@ -119,37 +122,37 @@ module _ (c : Change) (old : State) (may : MayTurnSession c old) (turn : Turn) (
   left_part false b is = absurd (false≢true is)
 
   one : OnlyLoses b first old.device m
-  one = parts_only next (unreached next old.core written) b first over.parts old.device m (λ e is. let its = unreached_failed old written m buf back e (unreached_was c old may written e is) in (begun_there c old may e ∙ (left_part (members_there next old.core.status.wanted e) (not (has written e)) is), its.1))
+  one = parts_only next (unreached next old.core written) b first over.parts.parts old.device m (λ e is. let its = unreached_failed old written m buf back e (unreached_was c old may written e is) in (begun_there c old may b bi e ∙ (left_part (members_there next old.core.status.wanted e) (not (has written e)) is), its.1))
 
   pub over_loses : OnlyLoses b last old.device new.device
   over_loses = loses_then b first last old.device m new.device (turn_rises c old may turn by slots p q m (turned.Done written buf) gives) rises one leaves.loses
 
   pub over_left : MarksLeft next b last
-  over_left = left_then next b first last valid (loses_less b first old.device m one) (loses_less first last m new.device leaves.loses) (parts_left next (unreached next old.core written) b first over.parts valid (unreached_next c old may written)) leaves.left
+  over_left = left_then next b first last valid (loses_less b first old.device m one) (loses_less first last m new.device leaves.loses) (parts_left next (unreached next old.core written) b first over.parts.parts valid (unreached_next c old may written)) leaves.left
 
   pub over_fits : AreEntries old.core.cache.entries → ((disk : ℕ) → has_disk old.core.cache disk ≡ is_member old.core.descriptor disk) → Fits old next last (cache_after c.leaving old.core.cache) new.device.sizes
-  over_fits entries notes = fits_by old next b last (cache_after c.leaving old.core.cache) old.device new.device valid (still_inside c old may) (same_mib c old may) (begun_group c old may) (begun_id c old may) (begun_rows c old may)
-      (λ e member is. begun_missing c old may e ∙ ap (λ (t : Bool). t && calls_missing old.core.status.wanted e) member ∙ is) (leaves.forgotten (parts_forgotten next (unreached next old.core written) b first over.parts (begun_forgotten c old may))) over_loses (entries_after c.leaving old.core.cache entries)
+  over_fits entries notes = fits_by old next b last (cache_after c.leaving old.core.cache) old.device new.device valid (still_inside c old may) (same_mib c old may) (begun_group c old may b bi) (begun_id c old may b bi) (begun_rows c old may b bi)
+      (λ e member is. begun_missing c old may b bi e ∙ ap (λ (t : Bool). t && calls_missing old.core.status.wanted e) member ∙ is) (leaves.forgotten (parts_forgotten next (unreached next old.core written) b first over.parts.parts (begun_forgotten c old may b bi))) over_loses (entries_after c.leaving old.core.cache entries)
       (λ disk. has_after c.leaving old.core.cache disk ∙ ap (λ (t : Bool). t && not (is_in (disks_leaving c.leaving) disk)) (notes disk) ∙ sym (next_member c old may disk)) (λ disk. still_after c.leaving old.core.cache disk (may.still disk))
       new.device.sizes (leaves.keeps.sizes ∙ gives.keeps.sizes)
 
   pub over_epoch : last.stamp.epoch ≡ old.core.status.stamp.epoch
-  over_epoch = leaves.numbers.epoch ∙ ap (λ (x : Stamp). x.epoch) (first_stamp c old may written back.within first over.parts)
+  over_epoch = leaves.numbers.epoch ∙ ap (λ (x : Stamp). x.epoch) (first_stamp c old may b bi written back.within first over.parts.parts)
 
   numbers : SpendsNumbers 3 old.core.status last
   numbers =
-      let seq = ap (λ (x : Stamp). x.seq) (first_stamp c old may written back.within first over.parts) in
+      let seq = ap (λ (x : Stamp). x.seq) (first_stamp c old may b bi written back.within first over.parts.parts) in
       let goes_up = leaves.numbers.rises in
       let most = leaves.numbers.most in
       let less = no_more_there b first one.group one.stays in
-      let many = begun_many c old may in
+      let many = begun_many c old may b bi in
       record { epoch = over_epoch; rises = omega (arith, seq, goes_up); most = omega (arith, seq, most, less, many) }
 
   -- ---- what is written
 
   of_status : (d k : ℕ) (value : Sector) → IsOfStatus first last d k value → IsOfCommit (descriptor_bytes next) old.core.status last d k value
   of_status d k value (write, states, its) =
-      let seq = ap (λ (x : Stamp). x.seq) (first_stamp c old may written back.within first over.parts) in
+      let seq = ap (λ (x : Stamp). x.seq) (first_stamp c old may b bi written back.within first over.parts.parts) in
       let low = its.later in (
         write,
         inr (record { kind = states.kind; status = states.status; own = states.own ∙ ap (λ (g : Descriptor). g.id) group ∙ same_id c old may ∙ ap (λ (g : Descriptor). g.id) may.commit.settle.own; content = states.content }),
@@ -157,7 +160,7 @@ module _ (c : Change) (old : State) (may : MayTurnSession c old) (turn : Turn) (
           frames = its.frames;
           slots = its.slots;
           targets = λ disk is. subst (λ (set : Disks). IsTrue (set disk)) (sym (session_there c old may)) (back.within disk (reached disk (its.targets disk is)));
-          epoch = its.epoch ∙ ap (λ (x : Stamp). x.epoch) (first_stamp c old may written back.within first over.parts);
+          epoch = its.epoch ∙ ap (λ (x : Stamp). x.epoch) (first_stamp c old may b bi written back.within first over.parts.parts);
           later = omega (arith, seq, low);
           latest = its.latest;
           its = its.its;
@@ -173,7 +176,7 @@ module _ (c : Change) (old : State) (may : MayTurnSession c old) (turn : Turn) (
 
   writes : KeepsShelf (is_there old.core) (IsOfCommit (descriptor_bytes next) old.core.status last) old.device new.device
   writes =
-      let seq = ap (λ (x : Stamp). x.seq) (first_stamp c old may written back.within first over.parts) in
+      let seq = ap (λ (x : Stamp). x.seq) (first_stamp c old may b bi written back.within first over.parts.parts) in
       let goes_up = leaves.numbers.rises in
       keeps_then (is_there old.core) (IsOfCommit (descriptor_bytes next) old.core.status last) old.device m new.device
       (turn_writes c old may turn by slots p q m (turned.Done written buf) gives last (omega (arith, seq, goes_up)))
@@ -182,20 +185,20 @@ module _ (c : Change) (old : State) (may : MayTurnSession c old) (turn : Turn) (
   -- ---- what is held and kept
 
   round : MarksRound next b first
-  round = parts_round next (unreached next old.core written) b first over.parts (unreached_next c old may written)
+  round = parts_round next (unreached next old.core written) b first over.parts.parts (unreached_next c old may written)
 
   pub first_held : IsHeld old.device old.core → SessionIsHeld m next first slots
   first_held held =
       let stands = has_turned.held (before_held c old may turn by slots p q m (turned.Done written buf) gives held) in
       let a : HoldsBy m next turn.told.now (members_among next (has written)) (after_turn old.core.status.stamp) slots = subst (λ (g : Descriptor). HoldsBy m g turn.told.now (members_among g (has written)) (after_turn old.core.status.stamp) slots) by.next stands in
-      let t : turn.told.now ≡ first.committed = by.told ∙ sym (first_committed c old may written back.within first over.parts) in
+      let t : turn.told.now ≡ first.committed = by.told ∙ sym (first_committed c old may b bi written back.within first over.parts.parts) in
       let e : HoldsBy m next first.committed (members_among next (has written)) (after_turn old.core.status.stamp) slots = subst (λ (x : Status). HoldsBy m next x (members_among next (has written)) (after_turn old.core.status.stamp) slots) t a in
       let f : HoldsBy m next first.committed (there first) (after_turn old.core.status.stamp) slots = subst (λ (set : Disks). HoldsBy m next first.committed set (after_turn old.core.status.stamp) slots) (sym there_is) e in
-      subst (λ (x : Stamp). HoldsBy m next first.committed (there first) x slots) (sym (first_stamp c old may written back.within first over.parts)) f
+      subst (λ (x : Stamp). HoldsBy m next first.committed (there first) x slots) (sym (first_stamp c old may b bi written back.within first over.parts.parts)) f
 
   first_wants : SessionIsHeld m next first slots → WantsMarks m next first
-  first_wants held = wants_marks next b first valid round c.records.told (parts_loses next (unreached next old.core written) b first over.parts).stale (parts_loses next (unreached next old.core written) b first over.parts).dirty
-      (sym (begun_wanted c old may)) (first_committed c old may written back.within first over.parts) m slots held
+  first_wants held = wants_marks next b first valid round c.tables.told (parts_loses next (unreached next old.core written) b first over.parts.parts).stale (parts_loses next (unreached next old.core written) b first over.parts.parts).dirty
+      (sym (begun_wanted c old may b bi)) (first_committed c old may b bi written back.within first over.parts.parts) m slots held
 
   kept : Path DeviceStep (λ d. IsHeld old.device old.core → StaysKept old.device d) old.device new.device
   kept =
@@ -209,8 +212,8 @@ module _ (c : Change) (old : State) (may : MayTurnSession c old) (turn : Turn) (
   pub over_writes : Writes next (disks_leaving c.leaving) p r old new
   over_writes = record {
     writes = writes;
-    status = marks_kept (IsNext next) (disks_leaving c.leaving) next old new b (inr refl) (inr (next, refl, begun_group c old may)) (stale_after c old may) (stale_before c old may) (missing_after c old may) (missing_before c old may) (begun_dirty c old may)
-        (begun_less c old may) (session_there c old may) (λ row lp pp volume copy. copy_apart c old may row lp pp (subst (λ (rows : List LvRow). IsOneOf rows row) (same_volumes c old may) volume) copy) over_loses over_left;
+    status = marks_kept (IsNext next) (disks_leaving c.leaving) next old new b (inr refl) (inr (next, refl, begun_group c old may b bi)) (stale_after c old may b bi) (stale_before c old may b bi) (missing_after c old may b bi) (missing_before c old may b bi) (begun_dirty c old may b bi)
+        (begun_less c old may b bi) (session_there c old may) (λ row lp pp volume copy. copy_apart c old may row lp pp (subst (λ (rows : List LvRow). IsOneOf rows row) (same_volumes c old may) volume) copy) over_loses over_left;
     numbers = numbers;
     kept = kept;
     finds = finds;

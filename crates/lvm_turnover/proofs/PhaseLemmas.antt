@@ -33,16 +33,15 @@ use Rattle.lvm_session.specs.State.{Core, State, state, is_there}
 use Rattle.lvm_core.specs.Held.{IsHeld}
 use Rattle.lvm_change.specs.declared.turn.Turn.{Turn}
 use Rattle.lvm_change.specs.declared.turn.Turned.{Turned}
-use Rattle.lvm_change.specs.Records.{IsTurnBy}
 use Rattle.lvm_change.specs.Turn.{HoldsBy, IsBefore, IsOfTurn, ComesBack, TurnGives}
 use Rattle.lvm_turnover.specs.declared.change.Change.{Change}
 use Rattle.lvm_turnover.specs.Changing.{IsNext}
-use Rattle.lvm_turnover.specs.Turning.{MayTurnSession, after_turn, disks_leaving, stamped_twice, unreached}
+use Rattle.lvm_turnover.specs.Turning.{IsTurnBy, MayTurnSession, after_turn, disks_leaving, stamped_twice, unreached}
 use Rattle.lvm_turnover.proofs.BeginningLemmas.{next, session_there, copy_apart}
 use Rattle.lvm_turnover.proofs.LeavingLemmas.{Writes}
 use Rattle.lvm_turnover.proofs.MarksLemmas.{marks_kept}
 
-module _ (c : Change) (old : State) (may : MayTurnSession c old) (turn : Turn) (by : IsTurnBy c.records old.core.descriptor turn) (slots : Homes) (p q : ℕ) (m : Device) (t : Turned)
+module _ (c : Change) (old : State) (may : MayTurnSession c old) (turn : Turn) (by : IsTurnBy c old.core.descriptor turn) (slots : Homes) (p q : ℕ) (m : Device) (t : Turned)
     (gives : TurnGives turn (is_there old.core) old.core.status.stamp old.core.homes slots 0 p q old.device m t) where
   abbrev goal : Descriptor
   goal = next c old may
@@ -53,7 +52,7 @@ module _ (c : Change) (old : State) (may : MayTurnSession c old) (turn : Turn) (
   pub before_held : IsHeld old.device old.core → IsBefore turn (is_there old.core) stamp old.core.homes old.device
   before_held held = (
     old.core.status.committed,
-    subst (λ (g : Descriptor). IsRerowed g old.core.status.committed turn.told.now) (sym by.next) (subst (λ (x : Status). IsRerowed goal old.core.status.committed x) (sym by.told) may.ready.records.told),
+    subst (λ (g : Descriptor). IsRerowed g old.core.status.committed turn.told.now) (sym by.next) (subst (λ (x : Status). IsRerowed goal old.core.status.committed x) (sym by.told) may.ready.told),
     subst (λ (g : Descriptor). HoldsBy old.device g old.core.status.committed (is_there old.core) stamp old.core.homes) (sym by.was_is) held,
   )
 
@@ -73,7 +72,7 @@ module _ (c : Change) (old : State) (may : MayTurnSession c old) (turn : Turn) (
     of_commit d s value it = ⊎_elim
         (λ states. (
           it.write,
-          inr (record { kind = states.0; status = turn.told.now; own = ap (λ (x : Status). x.id) by.told ∙ may.ready.records.told.id ∙ ap (λ (x : Status). x.id) may.settled ∙ may.commit.settle.id; content = ap (λ (f : Framed). f.content) states.1 }),
+          inr (record { kind = states.0; status = turn.told.now; own = ap (λ (x : Status). x.id) by.told ∙ may.ready.told.id ∙ ap (λ (x : Status). x.id) may.settled ∙ may.commit.settle.id; content = ap (λ (f : Framed). f.content) states.1 }),
           (let seq = ap (λ (f : Framed). f.stamp.seq) states.1 in record {
             frames = it.frames;
             slots = it.slots;

@@ -38,7 +38,6 @@ use Rattle.lvm_core.proofs.SettlingLemmas.{holds_session, may_commit_now}
 use Rattle.lvm_core.proofs.CommittingLemmas.Settled.{there_is}
 use Rattle.lvm_change_laws.specs.Rule.{MayChange, MayChangeRule}
 use Rattle.lvm_change_laws.proofs.RuleLemmas.{rule_is_change}
-use Rattle.lvm_change.specs.Records.{IsTurnBy}
 use Rattle.lvm_change.specs.Turn.{ComesBack, HasFewVotes, TurnGives}
 use Rattle.lvm_change.specs.declared.turn.Turn.{Turn}
 use Rattle.lvm_change.specs.declared.turn.Turned.{Turned}
@@ -46,9 +45,9 @@ use Rattle.lvm_change.specs.declared.turn.Turned.TheVariants as turned
 use Rattle.lvm_change.proofs.PartingLemmas.{parts_only, parts_left, parts_forgotten, parts_stamp, parts_there}
 use Rattle.lvm_turnover.specs.declared.change.Change.{Change}
 use Rattle.lvm_turnover.specs.declared.change.Leaving.{Leaving}
-use Rattle.lvm_turnover.specs.Turning.{IsMadeFor, IsReadyFor, MayTurnSession, TurnsSession, TakesOver, GivesUp, GoesOnWith, cache_after, core_after, disks_leaving, origin_after, stamped_twice, state_after, unreached}
+use Rattle.lvm_turnover.specs.Turning.{IsMadeFor, IsReadyFor, IsTurnBy, MayTurnSession, TurnsSession, TakesOver, GivesUp, GoesOnWith, cache_after, core_after, disks_leaving, origin_after, stamped_twice, state_after, unreached}
 use Rattle.lvm_turnover.specs.Changing.{ChangeEnds, EndsFrom, IsNext, ChangeLeaves, HasGoneOffBy, GoesOffFrom}
-use Rattle.lvm_turnover.proofs.BeginningLemmas.{begun, same_volumes, copy_there, copy_stale, stale_before, session_there, unreached_member, first_reached}
+use Rattle.lvm_turnover.proofs.BeginningLemmas.{same_volumes, copy_there, copy_stale, stale_before, session_there, unreached_member, first_reached}
 use Rattle.lvm_turnover.proofs.LeavingLemmas.{IsSameOrCut, change_leaves}
 use Rattle.lvm_turnover.proofs.LeftLemmas.{left_so}
 use Rattle.lvm_turnover.proofs.OverLemmas.{over_ends, over_status, over_fits, over_epoch, over_left, over_writes, over_well, over_held}
@@ -58,13 +57,13 @@ use Rattle.lvm_turnover.proofs.StandingLemmas.{Fits, fits_by, sound_on, sound_of
 pub record Comes (c : Change) (before after : ℕ) (old new : State) (answer : Result (Unit {0}) CommitFault) : Type 0 where
   pub sound : IsSoundAtRest new
   pub sizes : SameSizes old.core new.core
-  pub ends : EndsFrom c.records.next before old (state_after c.leaving old) new answer
-  pub left : MarksLeft c.records.next old.core.status new.core.status
-  pub leaves : ChangeLeaves (IsNext c.records.next) [] (disks_leaving c.leaving) before after old new
+  pub ends : EndsFrom c.next before old (state_after c.leaving old) new answer
+  pub left : MarksLeft c.next old.core.status new.core.status
+  pub leaves : ChangeLeaves (IsNext c.next) [] (disks_leaving c.leaving) before after old new
 
-module _ (c : Change) (old : State) (may : MayTurnSession c old) (settled_is : IsSettled old.core) (sound : IsSoundAtRest old) (turn : Turn) (by : IsTurnBy c.records old.core.descriptor turn) where
+module _ (c : Change) (old : State) (may : MayTurnSession c old) (settled_is : IsSettled old.core) (sound : IsSoundAtRest old) (turn : Turn) (by : IsTurnBy c old.core.descriptor turn) where
   abbrev next : Descriptor
-  next = c.records.next
+  next = c.next
 
   abbrev was : Descriptor
   was = old.core.descriptor
@@ -215,8 +214,8 @@ module _ (c : Change) (old : State) (may : MayTurnSession c old) (settled_is : I
     leaves_so log = change_leaves next (disks_leaving c.leaving) p r old new (over_writes c old may turn by slots p q r m written buf gives new answer over settled_is.quiet.buffers) log
 
     left_over : MarksLeft next old.core.status new.core.status
-    left_over = left_so next next old.core.status (begun c old may) new.core.status refl (λ row lp q volume copy. copy_there c old may row lp q (was_volume row volume) copy) (λ row lp q volume copy. copy_stale c old may row lp q (was_volume row volume) copy)
-        (stale_before c old may) (over_left c old may turn by slots p q r m written buf gives new answer over settled_is.quiet.buffers)
+    left_over = left_so next next old.core.status over.parts.begun new.core.status refl (λ row lp q volume copy. copy_there c old may over.parts.begun over.parts.begun_is row lp q (was_volume row volume) copy) (λ row lp q volume copy. copy_stale c old may over.parts.begun over.parts.begun_is row lp q (was_volume row volume) copy)
+        (stale_before c old may over.parts.begun over.parts.begun_is) (over_left c old may turn by slots p q r m written buf gives new answer over settled_is.quiet.buffers)
       where
         was_volume : (row : LvRow) → IsOneOf next.lvs row → IsOneOf was.lvs row
         was_volume row volume = subst (λ (rows : List LvRow). IsOneOf rows row) (same_volumes c old may) volume
@@ -252,7 +251,7 @@ module _ (c : Change) (old : State) (may : MayTurnSession c old) (settled_is : I
                 total_is = ends.lost.total_is ∙ ap total_votes fits_next.own;
                 few = subst (λ (g : Descriptor). IsFalse (is_enough_to_write g have)) fits_next.own ends.lost.few;
                 disk = ends.lost.disk;
-                was = back_over.within ends.lost.disk (first_reached c old may written back_over.within over.first over.parts ends.lost.disk ends.lost.was);
+                was = back_over.within ends.lost.disk (first_reached c old may over.parts.begun over.parts.begun_is written back_over.within over.first over.parts.parts ends.lost.disk ends.lost.was);
                 failed = rose_before ((turn_rises c old may turn by slots p q m (turned.Done written buf) gives).faults ends.lost.disk) ends.lost.failed;
                 is = goes.1;
                 well = over_well c old may turn by slots p q r m written buf gives new answer over settled_is.quiet.buffers ends.back.well;
@@ -304,16 +303,16 @@ session_comes c before after old new answer w may settled_is sound = by_how w.tu
 -- ---- before the first write
 
 pub may_turn_session :
-    (c : Change) (s : State) → IsSoundAtRest s → IsSettled s.core → HasSpareNumbers s.core → IsMadeFor s.core.status.committed c → MayChange (is_in (disks_leaving c.leaving)) s.core.descriptor c.records.next (is_there s.core) → MayTurnSession c s
+    (c : Change) (s : State) → IsSoundAtRest s → IsSettled s.core → HasSpareNumbers s.core → IsMadeFor s.core.status.committed c → MayChange (is_in (disks_leaving c.leaving)) s.core.descriptor c.next (is_there s.core) → MayTurnSession c s
 may_turn_session c s sound settled_is spare ready change = record { ready = ready; settled = settled_is.committed; change = change; still = settled_is.quiet.notes; commit = may_commit_now s sound settled_is spare 4 (omega arith) }
 
 -- ---- where no member leaves
 
-pub may_of : (c : Change) (s : State) → IsReadyFor s.core.status.committed c → MayChangeRule s.core.descriptor c.records.next (is_there s.core) → MayChange (is_in (disks_leaving c.leaving)) s.core.descriptor c.records.next (is_there s.core)
-may_of c s ready rule = subst (λ (o : Option Leaving). MayChange (is_in (disks_leaving o)) s.core.descriptor c.records.next (is_there s.core)) (sym ready.stay) (rule_is_change s.core.descriptor c.records.next (is_there s.core) rule)
+pub may_of : (c : Change) (s : State) → IsReadyFor s.core.status.committed c → MayChangeRule s.core.descriptor c.next (is_there s.core) → MayChange (is_in (disks_leaving c.leaving)) s.core.descriptor c.next (is_there s.core)
+may_of c s ready rule = subst (λ (o : Option Leaving). MayChange (is_in (disks_leaving o)) s.core.descriptor c.next (is_there s.core)) (sym ready.stay) (rule_is_change s.core.descriptor c.next (is_there s.core) rule)
 
-pub ends_of : (c : Change) (patience : ℕ) (old new : State) (answer : Result (Unit {0}) CommitFault) → IsReadyFor old.core.status.committed c → EndsFrom c.records.next patience old (state_after c.leaving old) new answer → ChangeEnds c.records.next patience old new answer
-ends_of c patience old new answer ready ends = subst (λ (o : Option Leaving). EndsFrom c.records.next patience old (state_after o old) new answer) ready.stay ends
+pub ends_of : (c : Change) (patience : ℕ) (old new : State) (answer : Result (Unit {0}) CommitFault) → IsReadyFor old.core.status.committed c → EndsFrom c.next patience old (state_after c.leaving old) new answer → ChangeEnds c.next patience old new answer
+ends_of c patience old new answer ready ends = subst (λ (o : Option Leaving). EndsFrom c.next patience old (state_after o old) new answer) ready.stay ends
 
-pub leaves_of : (c : Change) (before after : ℕ) (old new : State) → IsReadyFor old.core.status.committed c → ChangeLeaves (IsNext c.records.next) [] (disks_leaving c.leaving) before after old new → ChangeLeaves (IsNext c.records.next) [] [] before after old new
-leaves_of c before after old new ready leaves = subst (λ (o : Option Leaving). ChangeLeaves (IsNext c.records.next) [] (disks_leaving o) before after old new) ready.stay leaves
+pub leaves_of : (c : Change) (before after : ℕ) (old new : State) → IsReadyFor old.core.status.committed c → ChangeLeaves (IsNext c.next) [] (disks_leaving c.leaving) before after old new → ChangeLeaves (IsNext c.next) [] [] before after old new
+leaves_of c before after old new ready leaves = subst (λ (o : Option Leaving). ChangeLeaves (IsNext c.next) [] (disks_leaving o) before after old new) ready.stay leaves

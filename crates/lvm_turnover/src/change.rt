@@ -6,25 +6,26 @@ ghost use Rattle.lvm_session.specs.State.{is_there};
 ghost use Rattle.lvm_core.specs.State.{state_of};
 ghost use Rattle.lvm_core.specs.Settled.{IsSettled, HasSpareNumbers};
 ghost use Rattle.lvm_change_laws.specs.Rule.{MayChangeRule};
-ghost use Rattle.lvm_turnover.specs.Turning.{IsReadyFor};
+ghost use Rattle.lvm_turnover.specs.Turning.{IsPrepared, IsMadeFor, IsReadyFor};
 ghost use Rattle.lvm_turnover.specs.Changing.{IsNext, ChangeEnds, ChangeLeaves};
 
 use crate::turning::turn_session;
-use lvm_change::Records;
 use lvm_core::below::Patience;
 use lvm_core::{CommandDriver, CommitFault};
 use lvm_disk::Shelf;
-use lvm_num::{Descriptor, Memory};
-use lvm_status::{StaleTable, Updater};
+use lvm_num::{Descriptor, Memory, Rows};
+use lvm_status::{StaleTable, Tables, Updater};
 use std::alloc::Global;
 
-/// A change that is ready to be made: the records by which a group turns to its next descriptor, and the status of a session by them.
+/// A change that is ready to be made: what a group needs to turn to its next descriptor.
 #[derive(Drop)]
 pub struct Change {
-    /// The next descriptor, the status in its rows, and the bytes of both.
-    pub records: Records,
-    /// The status of a session once they stand.
-    pub updater: Updater,
+    /// The next descriptor.
+    pub next: Descriptor,
+    /// Its bytes.
+    pub content: Rows<u8>,
+    /// The status in its rows, and what a session needs to go on with it.
+    pub tables: Tables,
     /// The member that leaves with it, where one does.
     pub leaving: Option<Leaving>,
 }
@@ -41,17 +42,43 @@ impl Change {
     /// Takes all the memory of the change of a group with this committed status to its next descriptor, by which no member leaves.
     pub fn new(alloc: Global, table: &StaleTable, next: Descriptor) -> Result<Change, Memory>
         requires { IsValid next }
-        ensures next { IfOk result (λ c. c.records.next ≡ next) }
+        ensures next { IfOk result (λ c. c.next ≡ next) }
         ensures ready { IfOk result (IsReadyFor table.now) }
     {
-        let records = Records::new(alloc, table, next)?;
-        let told = StaleTable::from_status(alloc, records.told.as_status())?;
-        let updater = Updater::new(alloc, told, &records.next)?;
+        let told = table.with_rows(alloc, &next)?;
+        let updater = Updater::new(alloc, told, &next)?;
+        Change::among(alloc, &updater, next, None)
+    }
+
+    /// Takes all the memory of the change of a group whose session has this status.
+    pub fn among(
+        alloc: Global,
+        updater: &Updater,
+        next: Descriptor,
+        leaving: Option<Leaving>,
+    ) -> Result<Change, Memory>
+        requires { IsValid next }
+        ensures next { IfOk result (λ c. c.next ≡ next) }
+        ensures made { IfOk result (IsMadeFor updater.now.wanted) }
+        ensures leaving { IfOk result (λ c. c.leaving ≡ leaving) }
+    {
+        let tables = updater.tables(alloc, &next)?;
+        let content = lvm_vgda::encode(alloc, &next)?;
         Ok(Change {
-            records,
-            updater,
-            leaving: None,
+            next,
+            content,
+            tables,
+            leaving,
         })
+    }
+
+    /// Says in the rows of the next descriptor what is wanted of the status by now, without memory.
+    pub fn renew(&mut self, updater: &Updater)
+        requires { IsPrepared self.old }
+        ensures made { IsMadeFor updater.now.wanted self.new }
+        ensures same { self.new ≡ record self.old { tables = self.new.tables } }
+    {
+        updater.fill(&mut self.tables);
     }
 }
 
@@ -73,11 +100,11 @@ pub fn make_change<S: Shelf>(
     requires settled { IsSettled driver.1 }
     requires numbers { HasSpareNumbers driver.1 }
     requires ready { IsReadyFor driver.1.status.committed change }
-    requires rule { MayChangeRule driver.1.descriptor change.records.next (is_there driver.1) }
-    ensures ends { ChangeEnds change.records.next patience.old.left (state_of S.device driver) (state_of S.device result.0) result.1 }
+    requires rule { MayChangeRule driver.1.descriptor change.next (is_there driver.1) }
+    ensures ends { ChangeEnds change.next patience.old.left (state_of S.device driver) (state_of S.device result.0) result.1 }
     // whatever the answer
-    ensures left { MarksLeft change.records.next driver.1.status result.0.1.status }
-    ensures leaves { ChangeLeaves (IsNext change.records.next) [] [] patience.old.left patience.new.left (state_of S.device driver) (state_of S.device result.0) }
+    ensures left { MarksLeft change.next driver.1.status result.0.1.status }
+    ensures leaves { ChangeLeaves (IsNext change.next) [] [] patience.old.left patience.new.left (state_of S.device driver) (state_of S.device result.0) }
 {
     let (mut shelf, mut session) = driver.into_parts();
     let answer = turn_session(

@@ -1,5 +1,6 @@
 //! A session turns to its group's next descriptor, and goes on with what came of it.
-ghost use Rattle.std.specs.Prelude.{◌≡◌, ◌≤◌, ℕ, None, false, length, replicate, slice_set, IsTrue};
+ghost use Rattle.std.specs.Prelude.{◌≡◌, ◌≤◌, ℕ, None, false, length, replicate, slice_set, take, IsTrue};
+ghost use Rattle.lvm_num.specs.StatusBytes.{status_bytes};
 ghost use Rattle.lvm_num.specs.declared.record.Kind.TheVariants as kind;
 ghost use Rattle.lvm_num.specs.Descriptor.{IsValid, is_member};
 ghost use Rattle.lvm_num.specs.Disks.{has};
@@ -16,17 +17,17 @@ ghost use Rattle.lvm_core.specs.Committing.{with_one_out};
 ghost use Rattle.lvm_core.specs.Steps.{EndsAs};
 ghost use Rattle.lvm_change.specs.Parting.{PartsWith};
 ghost use Rattle.lvm_mwc.specs.Cache.{flight_on};
-ghost use Rattle.lvm_turnover.specs.Turning.{MaySend, MayTurnSession, IsSent, IsSettledBy, TurnsSession, core_after};
+ghost use Rattle.lvm_turnover.specs.Turning.{IsPrepared, MaySend, MayTurnSession, IsSent, IsSettledBy, BeginsWith, TurnsSession, core_after};
 
 use crate::change::{Change, Leaving};
-use lvm_change::{Records, Turned, next_stamp, part_with, turn_over, without};
+use lvm_change::{Turn, Turned, next_stamp, part_with, turn_over, without};
 use lvm_commit::{CommitEnd, commit_status};
 use lvm_core::CommitFault;
 use lvm_core::below::{Patience, Power};
 use lvm_disk::Shelf;
-use lvm_num::{Descriptor, DiskSet, Pbuf};
+use lvm_num::{DiskSet, Pbuf};
 use lvm_session::{Session, darken};
-use lvm_status::{Updater, members_there};
+use lvm_status::{StaleTable, members_there};
 
 /// Turns a session to the next descriptor of its group, without the member that leaves, where one does. The members that weren't reached become
 /// missing, and a status says so before the call answers. It takes no memory.
@@ -44,17 +45,11 @@ pub fn turn_session<S: Shelf>(
     ensures does { TurnsSession change patience.old.left patience.new.left (state (S.device shelf.old) (core_of session.old)) (state (S.device shelf.new) (core_of session.new)) result }
     ensures rooms { SameRooms session.old session.new }
 {
-    let Change {
-        records,
-        updater,
-        leaving,
-    } = change;
     let there = members_there(&session.descriptor, session.updater.wanted());
-    let stay = members_there(&records.next, session.updater.wanted());
-    match send(session, shelf, &records, there, patience) {
+    let stay = members_there(&change.next, session.updater.wanted());
+    match send(session, shelf, &change, there, patience) {
         Turned::Done { written, buf } => {
-            let lost = without(stay, written);
-            take_over(session, records.next, updater, leaving, lost);
+            take_over(session, change, without(stay, written));
             settle(session, shelf, buf, patience)
         }
         Turned::WentOff {
@@ -91,14 +86,15 @@ fn take_buffer(session: &mut Session) -> Pbuf
 fn send<S: Shelf>(
     session: &mut Session,
     shelf: &mut S,
-    records: &Records,
+    change: &Change,
     there: DiskSet,
     patience: &mut Patience,
 ) -> Turned
     requires some { 1 ≤ length session.old.pool }
     requires buffers { session.old.pool ≡ replicate (length session.old.pool) false }
-    requires may { MaySend records.now (has there) (state (S.device shelf.old) (core_of session.old)) }
-    ensures sent { IsSent records.now (has there) patience.old.left patience.new.left (state (S.device shelf.old) (core_of session.old)) (state (S.device shelf.new) (core_of session.new)) result }
+    requires bytes { 131072 ≤ length session.old.bytes.items }
+    requires may { MaySend change.now (has there) (state (S.device shelf.old) (core_of session.old)) }
+    ensures sent { IsSent change.now (has there) patience.old.left patience.new.left (state (S.device shelf.old) (core_of session.old)) (state (S.device shelf.new) (core_of session.new)) result }
     ensures rooms { SameRooms session.old session.new }
 {
     let buf = take_buffer(session);
@@ -106,9 +102,17 @@ fn send<S: Shelf>(
     let first = next_stamp(stamp);
     let last = next_stamp(first);
     session.updater.set_stamp(last);
+    let count = spell_status(session, change.tables.told());
+    let turn = Turn {
+        was: &session.descriptor,
+        next: &change.next,
+        told: change.tables.told().as_status(),
+        status: &session.bytes[..count],
+        content: change.content.as_slice(),
+    };
     turn_over(
         shelf,
-        records.turn(&session.descriptor),
+        turn,
         stamp,
         there,
         &mut session.homes,
@@ -117,28 +121,37 @@ fn send<S: Shelf>(
     )
 }
 
+// Writes the bytes of a status to the front of those that the session has room for, and answers how many these are.
+fn spell_status(session: &mut Session, told: &StaleTable) -> usize
+    requires { 131072 ≤ length session.old.bytes.items }
+    ensures spelled { take result session.new.bytes.items ≡ status_bytes told.now }
+    ensures within { result ≤ length session.new.bytes.items }
+    ensures same { session.new ≡ record session.old { bytes = session.new.bytes } }
+    ensures long { length session.new.bytes.items ≡ length session.old.bytes.items }
+{
+    lvm_vgsa::encode_into(told.as_status(), &mut session.bytes)
+}
+
 // The session is one of the next descriptor, without the member that leaves, and with the status that stands on its disks; these members are wanted missing.
-fn take_over(
-    session: &mut Session,
-    next: Descriptor,
-    updater: Updater,
-    leaving: Option<Leaving>,
-    lost: DiskSet,
-)
-    requires valid { IsValid next }
-    requires own { IsOf next updater }
-    requires idle { updater.in_flight ≡ None }
-    requires rows { HasItsRows updater.group updater.wanted }
-    requires members { (disk : ℕ) → IsTrue (has lost disk) → IsTrue (is_member next disk) }
+fn take_over(session: &mut Session, change: Change, lost: DiskSet)
+    requires valid { IsValid change.next }
+    requires prepared { IsPrepared change }
+    requires rows { HasItsRows change.next change.tables.told }
+    requires idle { session.old.updater.in_flight ≡ None }
+    requires members { (disk : ℕ) → IsTrue (has lost disk) → IsTrue (is_member change.next disk) }
     requires still { (disk : ℕ) → flight_on session.old.cache disk ≡ None }
-    ensures core { core_of session.new ≡ record (core_after leaving (core_of session.old)) { descriptor = next; status = session.new.updater } }
-    ensures parts { PartsWith next (has lost) (record updater { stamp = session.old.updater.stamp }) session.new.updater }
+    ensures core { core_of session.new ≡ record (core_after change.leaving (core_of session.old)) { descriptor = change.next; status = session.new.updater } }
+    ensures parts { BeginsWith change (has lost) session.old.updater.stamp session.new.updater }
     ensures rooms { SameRooms session.old session.new }
 {
-    let mut updater = updater;
-    updater.set_stamp(session.updater.stamp());
-    part_with(&next, &mut updater, lost);
-    session.updater = updater;
+    let Change {
+        next,
+        content: _,
+        tables,
+        leaving,
+    } = change;
+    session.updater.install(tables);
+    part_with(&next, &mut session.updater, lost);
     session.descriptor = next;
     let_go(session, leaving);
 }

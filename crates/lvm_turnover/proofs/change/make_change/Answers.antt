@@ -57,7 +57,7 @@ returns g c =
     let at : (P : State → Type 0) → P new → P (state (g.S.Shelf.device c.from_parts.result.0) c.from_parts.result.1) =
     λ P holds. subst (λ (s : g.row.S.Denot). P (state (g.S.Shelf.device s) c.from_parts.result.1)) (sym c.from_parts.ensures.shelf) (subst (λ (k : Core). P (state (g.S.Shelf.device c.turn_session-answer.new.shelf) k)) (sym c.from_parts.ensures.core) holds) in
     record {
-      ends = at (λ s. ChangeEnds c.args.change.records.next p old s c.turn_session-answer.result) (ends_of c.args.change p old new c.turn_session-answer.result c.requires.ready comes.ends);
-      left = at (λ s. MarksLeft c.args.change.records.next c.args.driver.1.status s.core.status) comes.left;
-      leaves = at (λ s. ChangeLeaves (IsNext c.args.change.records.next) [] [] p q old s) (leaves_of c.args.change p q old new c.requires.ready comes.leaves);
+      ends = at (λ s. ChangeEnds c.args.change.next p old s c.turn_session-answer.result) (ends_of c.args.change p old new c.turn_session-answer.result c.requires.ready comes.ends);
+      left = at (λ s. MarksLeft c.args.change.next c.args.driver.1.status s.core.status) comes.left;
+      leaves = at (λ s. ChangeLeaves (IsNext c.args.change.next) [] [] p q old s) (leaves_of c.args.change p q old new c.requires.ready comes.leaves);
     }

@@ -61,12 +61,12 @@ settle-requires-clause-bytes g c =
 pub settle-requires-clause-none : goal.settle-requires-clause-none
 settle-requires-clause-none g c =
     let sent = c.in-Done.ensures.sent in
-    subst HasNoneOpen (sym (c.take_over.ensures.core ∙ ap (λ (k : Core). record k { descriptor = c.args.change.records.next; status = c.take_over.new.session.updater }) sent.is)) (record { requests = c.requires.none.requests; copy = c.requires.none.copy })
+    subst HasNoneOpen (sym (c.take_over.ensures.core ∙ ap (λ (k : Core). record k { descriptor = c.args.change.next; status = c.take_over.new.session.updater }) sent.is)) (record { requests = c.requires.none.requests; copy = c.requires.none.copy })
 
 pub settle-requires-clause-out : goal.settle-requires-clause-out
 settle-requires-clause-out g c =
     let sent = c.in-Done.ensures.sent in
-    subst (λ (k : Core). IsOut k.pool 0) (sym (c.take_over.ensures.core ∙ ap (λ (k : Core). record k { descriptor = c.args.change.records.next; status = c.take_over.new.session.updater }) sent.is)) (one_is_out c.args.session.now.pool 0 refl c.requires.some)
+    subst (λ (k : Core). IsOut k.pool 0) (sym (c.take_over.ensures.core ∙ ap (λ (k : Core). record k { descriptor = c.args.change.next; status = c.take_over.new.session.updater }) sent.is)) (one_is_out c.args.session.now.pool 0 refl c.requires.some)
 
 pub settle-requires-clause-number : goal.settle-requires-clause-number
 settle-requires-clause-number g c =
