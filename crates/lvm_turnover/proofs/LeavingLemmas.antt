@@ -22,7 +22,7 @@ use Rattle.lvm_core.specs.Committing.{StaysBehind, is_in}
 use Rattle.lvm_core.specs.Leaves.{KeepsHistory, IsHeldSince}
 use Rattle.lvm_core.proofs.LeavesLemmas.{finds_next, keeps_same, keeps_cut as history_keeps_cut}
 use Rattle.lvm_core.proofs.CommittingLemmas.Spanning.{keeps_cut, calm_cut, path_falls}
-use Rattle.lvm_turnover.specs.Changing.{IsNext, among, IsOfChange, KeepsMarks, ChangeLeaves}
+use Rattle.lvm_turnover.specs.Changing.{IsNext, among, IsOfChange, KeepsMarks, LeavesWithin}
 
 -- What was written and wanted, what is kept and found, and what was waited.
 pub record Writes (next : Descriptor) (erases : List ℕ) (before after : ℕ) (old new : State) : Type 0 where
@@ -63,12 +63,12 @@ module _ (next : Descriptor) (erases : List ℕ) (before after : ℕ) (old new :
         its = it.2.its;
       })) by)) was
 
-  pub change_leaves : ChangeLeaves (IsNext next) [] erases before after old new
+  pub change_leaves : LeavesWithin 3 (IsNext next) [] erases before after old new
   change_leaves = record {
     writes = keeps_wider (is_there old.core) (among [] (among erases (is_there old.core))) (IsOfCommit (descriptor_bytes next) old.core.status new.core.status) (IsOfChange (IsNext next) [] erases old new) old.device new.device
         (λ d off. second_fails (is_in erases d) (is_there old.core d) off) (λ d s value it. inr (inl (next, refl, it))) w.writes;
     status = w.status;
-    numbers = (let most = w.numbers.most in record { epoch = w.numbers.epoch; rises = w.numbers.rises; most = omega (arith, most) });
+    numbers = w.numbers;
     history = by_history (λ (l : Log). KeepsHistory old.core.history l) (keeps_same old.core.history old.core.history refl) (history_keeps_cut old.core.history);
     spans = keeps;
     finds = λ held id k is. finds_next (IsNext next) old new _ w.writes.media next refl (w.finds held) held id k is;

@@ -6,5 +6,6 @@ pub mod OutLemmas
 pub mod OverLemmas
 pub mod PhaseLemmas
 pub mod SendingLemmas
+pub mod ShownLemmas
 pub mod StandingLemmas
 pub mod TurningLemmas

@@ -14,6 +14,7 @@ use Rattle.lvm_num.proofs.Booleans.{false_by}
 use Rattle.lvm_status.specs.Update.{Stored}
 use Rattle.lvm_commit.specs.Settling.{there, IsPassedOver, MarksLeft, OnlyLoses}
 use Rattle.lvm_commit.proofs.RoundsLemmas.Leaving.{passed_before}
+use Rattle.lvm_commit.proofs.SettlingLemmas.Chaining.{loses_less}
 use Rattle.lvm_session.specs.State.{State, is_there}
 use Rattle.lvm_core.specs.Committing.{is_in}
 use Rattle.lvm_core.specs.Leaves.{NoPartition, WasLeftBehind}
@@ -58,4 +59,5 @@ module _ (N : Descriptor → Type 0) (erases : List ℕ) (g : Descriptor) (old n
       dirty = λ lv. ap (λ (numbers : List ℕ). list_any (λ n. n == lv) numbers) (loses.dirty ∙ dirty);
       stays = λ e off is. loses.stays e (missing_to e off is);
       lost = λ e is isnt. let its = loses.lost e is (false_by (calls_missing first.wanted e) (calls_missing old.core.status.wanted e) (missing_from e) isnt) in (before e its.0, its.1);
+      fewer = λ e is. less e (loses_less first new.core.status old.device new.device loses e is);
     }

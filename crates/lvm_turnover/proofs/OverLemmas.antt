@@ -1,6 +1,6 @@
 -- What a session comes to that is one of the next descriptor, once both records stand.
-use Rattle.std.proofs.Common.{◌≡◌, inr, ℕ, Bool, true, false, ◌&&◌, not, List, refl, sym, ◌∙◌, ap, subst, arith}
-use Rattle.std.specs.Prelude.{IsTrue, IsFalse, [], length, replicate, Result}
+use Rattle.std.proofs.Common.{◌≡◌, inr, ℕ, ◌<◌, ◌^◌, ◌-◌, Bool, true, false, ◌&&◌, not, List, refl, sym, ◌∙◌, ap, subst, arith}
+use Rattle.std.specs.Prelude.{IsTrue, IsFalse, IfSome, [], length, replicate, Result}
 use Rattle.std.proofs.lemmas.Bool.{false≢true}
 use Rattle.lvm_num.specs.declared.record.Stamp.{Stamp}
 use Rattle.lvm_num.specs.declared.descriptor.Descriptor.{Descriptor}
@@ -13,13 +13,16 @@ use Rattle.lvm_num.specs.Among.{IsOneOf}
 use Rattle.lvm_num.specs.Status.{calls_missing}
 use Rattle.lvm_num.specs.Descriptor.{IsValid, is_member}
 use Rattle.lvm_disk.specs.Counts.{NoneFalls}
+use Rattle.lvm_disk.proofs.CountingLemmas.{rose_after}
+use Rattle.lvm_num.proofs.Booleans.{second_holds}
+use Rattle.lvm_write.proofs.WrittenLemmas.Writing.{if_told, told_at, both_from}
 use Rattle.lvm_disk.specs.Device.{Device, image_of}
 use Rattle.lvm_disk.specs.Paths.{DeviceStep, Path}
 use Rattle.lvm_disk.proofs.PathsLemmas.{map-path, append-path, last-path}
 use Rattle.lvm_kept.specs.Plans.{ChangesBy}
 use Rattle.lvm_mwc.specs.Cache.{has_disk}
 use Rattle.lvm_mwc.specs.Entries.{AreEntries}
-use Rattle.lvm_change_laws.specs.Rule.{members_among}
+use Rattle.lvm_change_laws.specs.Rule.{members_among, IsShownOn}
 use Rattle.lvm_status.specs.Update.{Stored, members_there, seen}
 use Rattle.lvm_status.specs.Calls.{first_updates}
 use Rattle.lvm_steps.specs.Moments.{StaysKept}
@@ -52,6 +55,7 @@ use Rattle.lvm_turnover.proofs.LeavingLemmas.{Writes}
 use Rattle.lvm_turnover.proofs.OutLemmas.{entries_after, has_after, still_after}
 use Rattle.lvm_turnover.proofs.MarksLemmas.{marks_kept}
 use Rattle.lvm_turnover.proofs.PhaseLemmas.{before_held, turn_kept, turn_finds, turn_rises, turn_writes, unreached_failed}
+use Rattle.lvm_turnover.proofs.ShownLemmas.{not_risen, still_shown}
 use Rattle.lvm_turnover.proofs.StandingLemmas.{Fits, fits_by}
 
 module _ (c : Change) (old : State) (may : MayTurnSession c old) (turn : Turn) (by : IsTurnBy c old.core.descriptor turn) (slots : Homes) (p q r : ℕ) (m : Device) (written : ℕ) (buf : Buffer)
@@ -226,3 +230,26 @@ module _ (c : Change) (old : State) (may : MayTurnSession c old) (turn : Turn) (
 
   pub over_held : StaysHeld first last slots new.core.homes m new.device → IsHeld old.device old.core → SessionIsHeld new.device next last new.core.homes
   over_held stays held = (stays next (sym group) (first_held held)).0
+
+  -- a disk that left goes on showing the next descriptor
+  pub over_shown : IsHeld old.device old.core → (disk : ℕ) → IsTrue (has written disk) → is_member next disk ≡ false → IfSome new.device.media (λ media. IsShownOn (image_of new.device.sizes media) next old.core.homes disk)
+  over_shown held disk is out = if_told new.device.media (λ media. IsShownOn (image_of new.device.sizes media) next old.core.homes disk) (λ k told.
+      let back_to = both_from m.media new.device.media (λ a z. ChangesBy (IsOfStatus first last) (image_of m.sizes a) (image_of new.device.sizes z)) k leaves.keeps.media told in
+      let shown = has_turned.shown (before_held c old may turn by slots p q m (turned.Done written buf) gives held) in
+      let on_turn : IsShownOn (image_of m.sizes back_to.0) turn.next.now old.core.homes disk = told_at m.media (λ media. (d : ℕ) → IsTrue (has written d) → IsShownOn (image_of m.sizes media) turn.next.now old.core.homes d) back_to.0 back_to.1 shown disk is in
+      still_shown first last next old.core.homes (image_of m.sizes back_to.0) (image_of new.device.sizes k) back_to.2 disk apart (subst (λ (g : Descriptor). IsShownOn (image_of m.sizes back_to.0) g old.core.homes disk) by.next on_turn))
+    where
+      apart : IsFalse (there first disk)
+      apart = by_test (there first disk) refl
+        where
+          by_test : (t : Bool) → there first disk ≡ t → t ≡ false
+          by_test true on = absurd (false≢true (sym out ∙ second_holds (has written disk) (is_member next disk) (subst (λ (set : Disks). IsTrue (set disk)) there_is on)))
+          by_test false on = refl
+
+  -- it was written where no transfer to it failed
+  pub over_written : (disk : ℕ) → IsTrue (is_there old.core disk) → old.device.counts.faults disk < 2 ^ 64 - 1 → new.device.counts.faults disk ≡ old.device.counts.faults disk → IsTrue (has written disk)
+  over_written disk was low well = by_test (has written disk) refl
+    where
+      by_test : (t : Bool) → has written disk ≡ t → t ≡ true
+      by_test true is = refl
+      by_test false isnt = absurd (not_risen (old.device.counts.faults disk) (new.device.counts.faults disk) low (rose_after (back.badly disk was isnt) (rises.faults disk)) well)

@@ -6,6 +6,7 @@ use Rattle.lvm_num.specs.declared.descriptor.LvRow.{LvRow}
 use Rattle.lvm_num.specs.declared.descriptor.Descriptor.{Descriptor}
 use Rattle.lvm_num.specs.Among.{IsOneOf}
 use Rattle.lvm_num.specs.Buffer.{Buffer}
+use Rattle.lvm_num.specs.declared.status.Status.{Status}
 use Rattle.lvm_num.specs.Disks.{Disks, has}
 use Rattle.lvm_num.specs.Descriptor.{is_member}
 use Rattle.lvm_num.specs.Votes.{votes_in, total_votes, is_enough_to_write, CanWrite}
@@ -45,12 +46,12 @@ use Rattle.lvm_change.specs.declared.turn.Turned.TheVariants as turned
 use Rattle.lvm_change.proofs.PartingLemmas.{parts_only, parts_left, parts_forgotten, parts_stamp, parts_there}
 use Rattle.lvm_turnover.specs.declared.change.Change.{Change}
 use Rattle.lvm_turnover.specs.declared.change.Leaving.{Leaving}
-use Rattle.lvm_turnover.specs.Turning.{IsMadeFor, IsReadyFor, IsTurnBy, MayTurnSession, TurnsSession, TakesOver, GivesUp, GoesOnWith, cache_after, core_after, disks_leaving, origin_after, stamped_twice, state_after, unreached}
-use Rattle.lvm_turnover.specs.Changing.{ChangeEnds, EndsFrom, IsNext, ChangeLeaves, HasGoneOffBy, GoesOffFrom}
+use Rattle.lvm_turnover.specs.Turning.{ShowsGone, IsMadeFor, IsReady, IsTurnBy, MayTurnSession, TurnsSession, TakesOver, GivesUp, GoesOnWith, cache_after, core_after, disks_leaving, origin_after, stamped_twice, state_after, unreached}
+use Rattle.lvm_turnover.specs.Changing.{ChangeEnds, EndsFrom, IsNext, LeavesWithin, HasGoneOffBy, GoesOffFrom}
 use Rattle.lvm_turnover.proofs.BeginningLemmas.{same_volumes, copy_there, copy_stale, stale_before, session_there, unreached_member, first_reached}
 use Rattle.lvm_turnover.proofs.LeavingLemmas.{IsSameOrCut, change_leaves}
 use Rattle.lvm_turnover.proofs.LeftLemmas.{left_so}
-use Rattle.lvm_turnover.proofs.OverLemmas.{over_ends, over_status, over_fits, over_epoch, over_left, over_writes, over_well, over_held}
+use Rattle.lvm_turnover.proofs.OverLemmas.{over_shown, over_written, over_ends, over_status, over_fits, over_epoch, over_left, over_writes, over_well, over_held}
 use Rattle.lvm_turnover.proofs.PhaseLemmas.{turn_rises, turn_only, turn_stopped, unreached_failed, some_unreached}
 use Rattle.lvm_turnover.proofs.StandingLemmas.{Fits, fits_by, sound_on, sound_off, sound_cut, sound_out, settled_on}
 
@@ -59,7 +60,8 @@ pub record Comes (c : Change) (before after : ℕ) (old new : State) (answer : R
   pub sizes : SameSizes old.core new.core
   pub ends : EndsFrom c.next before old (state_after c.leaving old) new answer
   pub left : MarksLeft c.next old.core.status new.core.status
-  pub leaves : ChangeLeaves (IsNext c.next) [] (disks_leaving c.leaving) before after old new
+  pub shown : ShowsGone c.next old new answer
+  pub leaves : LeavesWithin 3 (IsNext c.next) [] (disks_leaving c.leaving) before after old new
 
 module _ (c : Change) (old : State) (may : MayTurnSession c old) (settled_is : IsSettled old.core) (sound : IsSoundAtRest old) (turn : Turn) (by : IsTurnBy c old.core.descriptor turn) where
   abbrev next : Descriptor
@@ -102,6 +104,7 @@ module _ (c : Change) (old : State) (may : MayTurnSession c old) (settled_is : I
           sound = subst (λ (k : Core). IsSoundAtRest (state new.device k)) (sym is) (sound_cut old was u slots old.core.cache old.core.origin new.device (fits_stopped new.device gives.keeps.sizes) settled_is sound old.device cut);
           sizes = subst (SameSizes old.core) (sym flat) (record { most = refl; buffers = one_out_long old.core.pool });
           ends = inl (record { cut = cut; is = is ∙ ap (λ (k : Core). all_dark (record old.core { pool = with_one_out old.core.pool; status = k.status; homes = k.homes })) (sym is) });
+          shown = tt;
           left = left_stopped new.core.status (ap (λ (k : Core). k.status) is);
           leaves = change_leaves next (disks_leaving c.leaving) p q old new (turn_stopped c old may turn by slots p q new.device turned.Dark gives new.core (ap (λ (k : Core). k.status) is)) (inr (ap (λ (k : Core). k.history) flat));
         }
@@ -114,6 +117,7 @@ module _ (c : Change) (old : State) (may : MayTurnSession c old) (settled_is : I
           sound = subst (λ (k : Core). IsSoundAtRest (state new.device k)) (sym is) (sound_out old was u slots old.core.cache old.core.origin new.device (fits_stopped new.device gives.keeps.sizes) settled_is sound p old.device out);
           sizes = subst (SameSizes old.core) (sym is) (record { most = refl; buffers = one_out_long old.core.pool });
           ends = inl (record { out = out; is = is ∙ ap (λ (k : Core). record old.core { pool = with_one_out old.core.pool; status = k.status; homes = k.homes }) (sym is) });
+          shown = tt;
           left = left_stopped new.core.status (ap (λ (k : Core). k.status) is);
           leaves = change_leaves next (disks_leaving c.leaving) p q old new (turn_stopped c old may turn by slots p q new.device turned.Stuck gives new.core (ap (λ (k : Core). k.status) is)) (inl (ap (λ (k : Core). k.history) is));
         }
@@ -186,6 +190,7 @@ module _ (c : Change) (old : State) (may : MayTurnSession c old) (settled_is : I
         sound = subst (λ (k : Core). IsSoundAtRest (state new.device k)) (sym up.is) (sound_off old was new.core.status slots old.core.cache old.core.origin new.device fits_here settled_is sound back.ready);
         sizes = subst (SameSizes old.core) (sym up.is) (record { most = refl; buffers = refl });
         ends = subst (EndsFrom next p old (state_after c.leaving old) new) (sym up.answer_is) goes_off;
+        shown = subst (ShowsGone next old new) (sym up.answer_is) tt;
         left = left_as_was new.core.status left;
         leaves = change_leaves next (disks_leaving c.leaving) p q old new (turn_only c old may turn by slots p q new.device (turned.WentOff have total written buf) gives new.core (parts_stamp was (unreached was old.core written) u new.core.status up.parts) loses left) (inl (ap (λ (k : Core). k.history) up.is));
       }
@@ -210,7 +215,7 @@ module _ (c : Change) (old : State) (may : MayTurnSession c old) (settled_is : I
     fits_next : Fits old next new.core.status (cache_after c.leaving old.core.cache) new.device.sizes
     fits_next = over_fits c old may turn by slots p q r m written buf gives new answer over settled_is.quiet.buffers sound.fitting.entries sound.fitting.notes
 
-    leaves_so : IsSameOrCut old.core.history new.core.history → ChangeLeaves (IsNext next) [] (disks_leaving c.leaving) p r old new
+    leaves_so : IsSameOrCut old.core.history new.core.history → LeavesWithin 3 (IsNext next) [] (disks_leaving c.leaving) p r old new
     leaves_so log = change_leaves next (disks_leaving c.leaving) p r old new (over_writes c old may turn by slots p q r m written buf gives new answer over settled_is.quiet.buffers) log
 
     left_over : MarksLeft next old.core.status new.core.status
@@ -238,6 +243,8 @@ module _ (c : Change) (old : State) (may : MayTurnSession c old) (settled_is : I
             cuts = ends.back.cuts ∙ back_over.cuts;
             held = λ held. subst (IsHeld new.device) (sym goes.1) (holds_session new.device on next new.core.status new.core.homes fits_next.own (over_held c old may turn by slots p q r m written buf gives new answer over settled_is.quiet.buffers ends.held held));
           });
+          shown = subst (ShowsGone next old new) (sym goes.0) (λ disk was out low well held. over_shown c old may turn by slots p q r m written buf gives new answer over settled_is.quiet.buffers held disk
+              (over_written c old may turn by slots p q r m written buf gives new answer over settled_is.quiet.buffers disk was low well) out);
           left = left_over;
           leaves = leaves_so (inl (ap (λ (k : Core). k.history) goes.1));
         }
@@ -258,6 +265,7 @@ module _ (c : Change) (old : State) (may : MayTurnSession c old) (settled_is : I
                 ready = ends.back.ready;
                 cuts = ends.back.cuts ∙ back_over.cuts;
               })));
+              shown = subst (ShowsGone next old new) (sym goes.0) tt;
               left = left_over;
               leaves = leaves_so (inl (ap (λ (k : Core). k.history) goes.1));
             }
@@ -267,6 +275,7 @@ module _ (c : Change) (old : State) (may : MayTurnSession c old) (settled_is : I
               sound = subst (λ (k : Core). IsSoundAtRest (state new.device k)) (sym goes.1) (sound_cut old next new.core.status new.core.homes cache origin new.device fits_next settled_is sound m ends.0);
               sizes = subst (SameSizes old.core) (sym flat) (record { most = refl; buffers = one_out_long old.core.pool });
               ends = subst (EndsFrom next p old (state_after c.leaving old) new) (sym goes.0) (inr (record { cut = darkened_then 0 0 old.device m new.device refl back_over.cuts ends.0; is = goes.1 }));
+              shown = subst (ShowsGone next old new) (sym goes.0) tt;
               left = left_over;
               leaves = leaves_so (inr (ap (λ (k : Core). k.history) flat));
             }
@@ -274,6 +283,7 @@ module _ (c : Change) (old : State) (may : MayTurnSession c old) (settled_is : I
           sound = subst (λ (k : Core). IsSoundAtRest (state new.device k)) (sym goes.1) (sound_out old next new.core.status new.core.homes cache origin new.device fits_next settled_is sound q m ends.0);
           sizes = subst (SameSizes old.core) (sym goes.1) (record { most = refl; buffers = one_out_long old.core.pool });
           ends = subst (EndsFrom next p old (state_after c.leaving old) new) (sym goes.0) (inr (record { out = given_up_then 0 0 p q old.device m new.device refl back_over.cuts gives.spends ends.0; is = goes.1 }));
+          shown = subst (ShowsGone next old new) (sym goes.0) tt;
           left = left_over;
           leaves = leaves_so (inl (ap (λ (k : Core). k.history) goes.1));
         }
@@ -308,11 +318,23 @@ may_turn_session c s sound settled_is spare ready change = record { ready = read
 
 -- ---- where no member leaves
 
-pub may_of : (c : Change) (s : State) → IsReadyFor s.core.status.committed c → MayChangeRule s.core.descriptor c.next (is_there s.core) → MayChange (is_in (disks_leaving c.leaving)) s.core.descriptor c.next (is_there s.core)
+pub may_of : (c : Change) (s : State) → IsReady c → MayChangeRule s.core.descriptor c.next (is_there s.core) → MayChange (is_in (disks_leaving c.leaving)) s.core.descriptor c.next (is_there s.core)
 may_of c s ready rule = subst (λ (o : Option Leaving). MayChange (is_in (disks_leaving o)) s.core.descriptor c.next (is_there s.core)) (sym ready.stay) (rule_is_change s.core.descriptor c.next (is_there s.core) rule)
 
-pub ends_of : (c : Change) (patience : ℕ) (old new : State) (answer : Result (Unit {0}) CommitFault) → IsReadyFor old.core.status.committed c → EndsFrom c.next patience old (state_after c.leaving old) new answer → ChangeEnds c.next patience old new answer
+pub ends_of : (c : Change) (patience : ℕ) (old new : State) (answer : Result (Unit {0}) CommitFault) → IsReady c → EndsFrom c.next patience old (state_after c.leaving old) new answer → ChangeEnds c.next patience old new answer
 ends_of c patience old new answer ready ends = subst (λ (o : Option Leaving). EndsFrom c.next patience old (state_after o old) new answer) ready.stay ends
 
-pub leaves_of : (c : Change) (before after : ℕ) (old new : State) → IsReadyFor old.core.status.committed c → ChangeLeaves (IsNext c.next) [] (disks_leaving c.leaving) before after old new → ChangeLeaves (IsNext c.next) [] [] before after old new
-leaves_of c before after old new ready leaves = subst (λ (o : Option Leaving). ChangeLeaves (IsNext c.next) [] (disks_leaving o) before after old new) ready.stay leaves
+pub leaves_of : (c : Change) (before after : ℕ) (old new : State) → IsReady c → LeavesWithin 3 (IsNext c.next) [] (disks_leaving c.leaving) before after old new → LeavesWithin 3 (IsNext c.next) [] [] before after old new
+leaves_of c before after old new ready leaves = subst (λ (o : Option Leaving). LeavesWithin 3 (IsNext c.next) [] (disks_leaving o) before after old new) ready.stay leaves
+
+-- ---- a change that says what is wanted by now
+
+module _ (c d : Change) (same : d ≡ record c { tables = d.tables }) where
+  pub renewed_may : (s : State) → IsMadeFor s.core.status.wanted d → IsSoundAtRest s → IsSettled s.core → HasSpareNumbers s.core → MayChange (is_in (disks_leaving c.leaving)) s.core.descriptor c.next (is_there s.core) → MayTurnSession d s
+  renewed_may s made sound settled_is spare may = may_turn_session d s sound settled_is spare (subst (λ (x : Status). IsMadeFor x d) (sym settled_is.committed) made)
+      (subst (λ (x : Change). MayChange (is_in (disks_leaving x.leaving)) s.core.descriptor x.next (is_there s.core)) (sym same) may)
+
+  pub renewed_comes : (p q : ℕ) (old new : State) (answer : Result (Unit {0}) CommitFault) → Comes d p q old new answer → Comes c p q old new answer
+  renewed_comes p q old new answer comes =
+      let is : Comes (record c { tables = d.tables }) p q old new answer = subst (λ (x : Change). Comes x p q old new answer) same comes in
+      record { sound = is.sound; sizes = is.sizes; ends = is.ends; left = is.left; shown = is.shown; leaves = is.leaves }

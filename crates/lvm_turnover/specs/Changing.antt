@@ -14,7 +14,7 @@ use Rattle.lvm_erase.specs.Erasing.{ZeroesSlots}
 use Rattle.lvm_commit.specs.passed.Names.{SpanGoesOn}
 use Rattle.lvm_write.specs.Parts.{Spends}
 use Rattle.lvm_write.specs.Written.{KeepsShelf}
-use Rattle.lvm_commit.specs.Settling.{AreWell, SpendsNumbers, IsOfStatus, IsOfCommit}
+use Rattle.lvm_commit.specs.Settling.{there, AreWell, SpendsNumbers, IsOfStatus, IsOfCommit}
 use Rattle.lvm_session.specs.declared.open.Power.TheVariants as power
 use Rattle.lvm_session.specs.State.{State, moment_of, is_there}
 use Rattle.lvm_core.specs.declared.fault.CommitFault.{CommitFault}
@@ -92,18 +92,19 @@ pub record KeepsMarks (N : Descriptor → Type 0) (joins erases : List ℕ) (old
   pub stays : (d : ℕ) → IsFalse (is_in erases d) → IsTrue (calls_missing old.core.status.wanted d) → IsTrue (calls_missing new.core.status.wanted d)
   pub lost : (d : ℕ) → IsTrue (calls_missing new.core.status.wanted d) → IsFalse (calls_missing old.core.status.wanted d)
       → IsTrue (among joins (is_there old.core) d) × Rose (old.device.counts.faults d) (new.device.counts.faults d)
+  pub fewer : (d : ℕ) → IsTrue (there new.core.status d) → IsTrue (among joins (there old.core.status) d)
 
 -- the numbers that it may spend beside those for members that became missing
 abbrev pub numbers_for : List ℕ → List ℕ → ℕ
 numbers_for joins erases = 3 + 6 * (length joins + length erases)
 
--- What a change leaves that may commit descriptors of which this holds, and touch the records of disks that join and of disks that leave, with the patience before and after,
--- whatever its answer.
-pub record ChangeLeaves (N : Descriptor → Type 0) (joins erases : List ℕ) (before after : ℕ) (old new : State) : Type 0 where
+-- What a change leaves that may commit descriptors of which this holds, touch the records of disks that join and of disks that leave, and spend so many numbers, with the patience
+-- before and after, whatever its answer.
+pub record LeavesWithin (numbers : ℕ) (N : Descriptor → Type 0) (joins erases : List ℕ) (before after : ℕ) (old new : State) : Type 0 where
   pub writes : KeepsShelf (among joins (among erases (is_there old.core))) (IsOfChange N joins erases old new) old.device new.device
   pub status : KeepsMarks N joins erases old new
   -- the stamps are of the same session, and rise
-  pub numbers : SpendsNumbers (numbers_for joins erases) old.core.status new.core.status
+  pub numbers : SpendsNumbers numbers old.core.status new.core.status
   pub history : KeepsHistory old.core.history new.core.history
   -- a span that leads here goes on, where the disks hold what the session says by whatever was told before it
   pub spans : (run : ℕ) (first : Moment) → IsHeldSince run first old → SpanGoesOn run first (moment_of old) (moment_of new)
@@ -113,3 +114,7 @@ pub record ChangeLeaves (N : Descriptor → Type 0) (joins erases : List ℕ) (b
   pub behind : StaysBehind old new
   pub falls : NoneFalls old.device.counts new.device.counts
   pub spends : Spends before after old.device new.device
+
+-- so does a command that takes each of its disks by itself
+abbrev pub ChangeLeaves : (Descriptor → Type 0) → List ℕ → List ℕ → ℕ → ℕ → State → State → Type 0
+ChangeLeaves N joins erases before after old new = LeavesWithin (numbers_for joins erases) N joins erases before after old new

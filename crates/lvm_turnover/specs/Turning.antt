@@ -1,5 +1,5 @@
 -- How a session turns to its group's next descriptor, step by step.
-use Rattle.std.specs.Prelude.{◌≡◌, ℕ, List, [], ◌∷◌, not, filter, Option, Some, None, Result, Err}
+use Rattle.std.specs.Prelude.{◌≡◌, ℕ, ◌<◌, ◌^◌, ◌-◌, List, [], ◌∷◌, not, filter, Option, Some, None, IfSome, IsTrue, false, Result, Ok, Err}
 use Rattle.lvm_num.specs.declared.record.Stamp.{Stamp}
 use Rattle.lvm_num.specs.declared.descriptor.Descriptor.{Descriptor}
 use Rattle.lvm_num.specs.declared.status.Status.{Status}
@@ -8,7 +8,8 @@ use Rattle.lvm_num.specs.DescriptorBytes.{descriptor_bytes}
 use Rattle.lvm_num.specs.Status.{IsValidStatus}
 use Rattle.lvm_num.specs.StatusBytes.{status_bytes}
 use Rattle.lvm_status.specs.Rerowed.{IsRerowed}
-use Rattle.lvm_disk.specs.Device.{Device}
+use Rattle.lvm_num.specs.Descriptor.{is_member}
+use Rattle.lvm_disk.specs.Device.{Device, image_of}
 use Rattle.lvm_status.specs.Calls.{first_updates}
 use Rattle.lvm_status.specs.Update.{Stored, seen, members_there}
 use Rattle.lvm_rec.specs.declared.homes.Homes.{Homes}
@@ -25,8 +26,9 @@ use Rattle.lvm_session.specs.State.{Core, State, is_there}
 use Rattle.lvm_core.specs.declared.fault.CommitFault.{CommitFault}
 use Rattle.lvm_core.specs.declared.fault.CommitFault.TheVariants as fault
 use Rattle.lvm_core.specs.Committing.{is_in, with_one_out}
+use Rattle.lvm_core.specs.Held.{IsHeld}
 use Rattle.lvm_core.specs.Steps.{EndsAs}
-use Rattle.lvm_change_laws.specs.Rule.{MayChange}
+use Rattle.lvm_change_laws.specs.Rule.{MayChange, IsShownOn}
 use Rattle.lvm_change.specs.declared.turn.Turn.{Turn}
 use Rattle.lvm_change.specs.declared.turn.Turned.{Turned}
 use Rattle.lvm_change.specs.declared.turn.Turned.TheVariants as turned
@@ -52,8 +54,8 @@ pub record IsMadeFor (was : Status) (c : Change) : Type 0 where
   pub told : IsRerowed c.next was c.tables.told
 
 -- So it is, and no member leaves.
-pub record IsReadyFor (was : Status) (c : Change) : Type 0 where
-  pub made : IsMadeFor was c
+pub record IsReady (c : Change) : Type 0 where
+  pub prepared : IsPrepared c
   pub stay : c.leaving ≡ None
 
 -- The turn has its descriptor and its status, with their bytes.
@@ -176,3 +178,12 @@ pub record TurnsSession (c : Change) (before after : ℕ) (old new : State) (ans
   pub turned : Turned
   pub gives : TurnGives turn (is_there old.core) old.core.status.stamp old.core.homes slots 0 before middle old.device device turned
   pub goes : GoesOnWith c slots middle after device old new turned answer
+
+-- ---- disks that left
+
+-- Where the next descriptor is committed, a disk that is no member by it but was there, and to which no transfer failed as its count tells, shows it, if the disks held what was
+-- committed. It is in the slot to which it went.
+abbrev pub ShowsGone : Descriptor → State → State → Result (Unit {0}) CommitFault → Type 0
+ShowsGone next old new (Ok done) = (disk : ℕ) → IsTrue (is_there old.core disk) → is_member next disk ≡ false → old.device.counts.faults disk < 2 ^ 64 - 1 → new.device.counts.faults disk ≡ old.device.counts.faults disk → IsHeld old.device old.core
+    → IfSome new.device.media (λ media. IsShownOn (image_of new.device.sizes media) next old.core.homes disk)
+ShowsGone next old new (Err why) = Unit {0}

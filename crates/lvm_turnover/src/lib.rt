@@ -4,4 +4,4 @@
 mod change;
 mod turning;
 
-pub use change::{Change, Leaving, make_change};
+pub use change::{Change, Leaving, make_change, turn_group};
