@@ -36,7 +36,7 @@ use Rattle.lvm_turnover.proofs.OutLemmas.{find_without}
 use Rattle.lvm_volumes.specs.Endings.{StillHeld, KeepsFresh, HasFresh}
 use Rattle.lvm_volumes.proofs.EndingsLemmas.Fresh.{HasOnePlaceEach, no_copy, volume_stays}
 use Rattle.lvm_volumes.proofs.EndingsLemmas.Notes.{SparesNotes, command_spares, notes_stay}
-use Rattle.lvm_reduce.specs.Descriptors.{without_members}
+use Rattle.lvm_member_plan.specs.Descriptors.{without_members}
 use Rattle.lvm_reduce.specs.Steps.{IsStep}
 
 -- ---- notes

@@ -20,7 +20,7 @@ use Rattle.lvm_change_laws.specs.Rule.{MayChange}
 use Rattle.lvm_turnover.specs.declared.change.Leaving.{Leaving}
 use Rattle.lvm_turnover.specs.Changing.{EndsFrom, IsNext, LeavesWithin, with_descriptor}
 use Rattle.lvm_turnover.specs.Turning.{disks_leaving, state_after}
-use Rattle.lvm_reduce.specs.Descriptors.{IsReducedBy}
+use Rattle.lvm_member_plan.specs.Descriptors.{IsReducedBy}
 use Rattle.lvm_reduce.specs.Steps.{IsStep, StepEnds, HasComeTo, BreaksOff, WentOffAtOnce}
 use Rattle.lvm_reduce.proofs.HoldingLemmas.{step_before, step_fresh, step_still}
 

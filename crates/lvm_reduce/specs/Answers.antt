@@ -12,10 +12,10 @@ use Rattle.lvm_core.specs.declared.fault.CommitFault.{CommitFault}
 use Rattle.lvm_core.specs.declared.fault.CommitFault.TheVariants as commit
 use Rattle.lvm_core.specs.Committing.{is_in}
 use Rattle.lvm_core.specs.Settled.{IsSettled}
-use Rattle.lvm_reduce.specs.declared.fault.ReduceFault.{ReduceFault}
-use Rattle.lvm_reduce.specs.declared.fault.ReduceFault.TheVariants as fault
-use Rattle.lvm_reduce.specs.Descriptors.{reduced}
-use Rattle.lvm_reduce.specs.Refusals.{MayReduce, RefusesReduce}
+use Rattle.lvm_member_plan.specs.declared.fault.ReduceFault.{ReduceFault}
+use Rattle.lvm_member_plan.specs.declared.fault.ReduceFault.TheVariants as fault
+use Rattle.lvm_member_plan.specs.Descriptors.{reduced}
+use Rattle.lvm_member_plan.specs.Refusals.{MayReduce, RefusesReduce}
 use Rattle.lvm_reduce.specs.Steps.{BreaksOff}
 
 -- ---- faults

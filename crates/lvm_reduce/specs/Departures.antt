@@ -21,7 +21,7 @@ use Rattle.lvm_turnover.specs.declared.change.Leaving.{Leaving}
 use Rattle.lvm_turnover.specs.Turning.{IsPrepared, cache_after}
 use Rattle.lvm_reduce.specs.declared.departure.Departure.{Departure}
 use Rattle.lvm_reduce.specs.declared.departure.Mark.{Mark}
-use Rattle.lvm_reduce.specs.Descriptors.{reduced, is_used}
+use Rattle.lvm_member_plan.specs.Descriptors.{reduced, is_used}
 use Rattle.lvm_reduce.specs.Steps.{IsStep, BreaksOff, HasStepped, StepEnds}
 
 -- ---- its turns

@@ -18,7 +18,7 @@ use Rattle.lvm_volumes.specs.Endings.{StillHeld, KeepsFresh}
 use Rattle.lvm_turnover.specs.declared.change.Leaving.{Leaving}
 use Rattle.lvm_turnover.specs.Changing.{HasGoneOffBy}
 use Rattle.lvm_turnover.specs.Turning.{core_after}
-use Rattle.lvm_reduce.specs.Descriptors.{without_members, IsReducedBy}
+use Rattle.lvm_member_plan.specs.Descriptors.{without_members, IsReducedBy}
 
 -- Members on these disks leave, or none, and two members become even or are so no more: what can read the one descriptor meets what can read the other.
 pub record IsStep (leaving : List ℕ) (group next : Descriptor) : Type 0 where

@@ -3,7 +3,7 @@ ghost use Rattle.std.specs.Prelude.{◌≡◌, ◌⊎◌, [], ◌∷◌, length,
 ghost use Rattle.lvm_num.specs.Descriptor.{IsValid};
 ghost use Rattle.lvm_status.specs.Rerowed.{IsRerowed};
 ghost use Rattle.lvm_turnover.specs.Turning.{IsPrepared};
-ghost use Rattle.lvm_reduce.specs.Descriptors.{reduced, is_first};
+ghost use Rattle.lvm_member_plan.specs.Descriptors.{reduced, is_first};
 ghost use Rattle.lvm_reduce.specs.Departures.{MayDepart, IsDeparture, LeavesBy};
 
 use crate::descriptors::{is_first, with_even, without_members};

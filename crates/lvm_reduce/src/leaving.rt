@@ -8,7 +8,7 @@ ghost use Rattle.lvm_core.specs.State.{state_of};
 ghost use Rattle.lvm_core.specs.Settled.{IsSettled};
 ghost use Rattle.lvm_volume_plan.specs.PlannedVolume.{AreOfOneGroup};
 ghost use Rattle.lvm_turnover.specs.Changing.{LeavesWithin};
-ghost use Rattle.lvm_reduce.specs.Descriptors.{IsReducedBy};
+ghost use Rattle.lvm_member_plan.specs.Descriptors.{IsReducedBy};
 ghost use Rattle.lvm_reduce.specs.Departures.{IsDeparture, IsTurnFrom, IsMarked, IsUnmarked, MayTurnTwice, DepartEnds, TurnEnds, OutEnds};
 
 use crate::departure::{Departure, Mark};

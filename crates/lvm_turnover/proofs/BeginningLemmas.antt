@@ -239,7 +239,7 @@ module _ (c : Change) (s : State) (may : MayTurnSession c s) (begun : Stored) (b
       first_group = parts_group goal (unreached goal s.core written) begun first parts ∙ begun_group
 
       pub first_stamp : first.stamp ≡ after_turn s.core.status.stamp
-      first_stamp = parts_stamp goal (unreached goal s.core written) begun first parts
+      first_stamp = parts_stamp goal (unreached goal s.core written) begun first parts ∙ ap (λ (x : Updates). x.stamp) begun_is
 
       pub first_committed : first.committed ≡ c.tables.told
       first_committed = parts_committed goal (unreached goal s.core written) begun first parts ∙ begun_committed

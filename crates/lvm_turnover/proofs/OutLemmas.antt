@@ -1,8 +1,9 @@
 -- The session without a member that leaves: rows of those that stay, and notes.
-use Rattle.std.proofs.Common.{◌≡◌, inl, inr, ℕ, zero, suc, ◌<◌, ◌≤◌, count_by, Bool, true, false, ◌&&◌, ◌||◌, not, List, [], ◌∷◌, length, Option, Some, None, refl, sym, ◌∙◌, ap, subst, arith}
+use Rattle.std.proofs.Common.{◌≡◌, inl, inr, ℕ, zero, suc, ◌+◌, ◌<◌, ◌≤◌, count_by, Bool, true, false, ◌&&◌, ◌||◌, not, List, [], ◌∷◌, length, Option, Some, None, refl, sym, ◌∙◌, ap, subst, arith}
 use Rattle.std.specs.Prelude.{◌==◌, if◌then◌else◌, IsTrue, filter, find, is_some, option_and_then, Contains, slice_index_or}
 use Rattle.std.specs.List.{list_any}
 use Rattle.std.proofs.lemmas.Bool.{eqb-true, false≢true}
+use Rattle.std.proofs.lemmas.List.Sums.{sum_by-cons}
 use Rattle.lvm_num.specs.declared.descriptor.PvRow.{PvRow}
 use Rattle.lvm_num.specs.declared.status.StatusRow.{StatusRow}
 use Rattle.lvm_num.specs.Disks.{Disks}
@@ -93,22 +94,26 @@ entries_after (Some out) cache are = are
 
 -- ---- how many
 
+abbrev one_if : Bool → ℕ
+one_if b = if b then 1 else 0
+
+count_cons : {X : Type 0} (p : X → Bool) (x : X) (xs : List X) → count_by p (x ∷ xs) ≡ one_if (p x) + count_by p xs
+count_cons p x xs = sum_by-cons (λ y. one_if (p y)) x xs
+
 pub count_same : {X : Type 0} (p q : X → Bool) (xs : List X) → ((x : X) → IsOneOf xs x → p x ≡ q x) → count_by p xs ≡ count_by q xs
 count_same p q [] same = refl
-count_same p q (x ∷ xs) same = λ t. count_of (same x (inl refl) t) (count_same p q xs (λ y one. same y (inr one)) t)
-  where
-    count_of : Bool → ℕ → ℕ
-    count_of b n = if b then suc n else n
+count_same p q (x ∷ xs) same =
+    let here : one_if (p x) ≡ one_if (q x) = ap one_if (same x (inl refl)) in
+    let rest = count_same p q xs (λ y one. same y (inr one)) in
+    omega (arith, count_cons p x xs, count_cons q x xs, here, rest)
 
 pub count_staying : (p : PvRow → Bool) (leaves : Disks) (rows : List PvRow) → count_by p (staying leaves rows) ≤ count_by p rows
 count_staying p leaves [] = omega arith
-count_staying p leaves (row ∷ rows) = by (leaves row.disk) (p row) refl (count_staying p leaves rows)
+count_staying p leaves (row ∷ rows) = by (leaves row.disk) (count_staying p leaves rows)
   where
-    by : (goes counts : Bool) → p row ≡ counts → count_by p (staying leaves rows) ≤ count_by p rows → count_by p (if not goes then row ∷ staying leaves rows else staying leaves rows) ≤ (if counts then suc (count_by p rows) else count_by p rows)
-    by true true is rest = omega (arith, rest)
-    by true false is rest = rest
-    by false true is rest = let e : count_by p (row ∷ staying leaves rows) ≡ suc (count_by p (staying leaves rows)) = ap (λ (b : Bool). if b then suc (count_by p (staying leaves rows)) else count_by p (staying leaves rows)) is in omega (arith, rest, e)
-    by false false is rest = let e : count_by p (row ∷ staying leaves rows) ≡ count_by p (staying leaves rows) = ap (λ (b : Bool). if b then suc (count_by p (staying leaves rows)) else count_by p (staying leaves rows)) is in omega (arith, rest, e)
+    by : (goes : Bool) → count_by p (staying leaves rows) ≤ count_by p rows → count_by p (if not goes then row ∷ staying leaves rows else staying leaves rows) ≤ count_by p (row ∷ rows)
+    by true rest = omega (arith, rest, count_cons p row rows)
+    by false rest = omega (arith, rest, count_cons p row rows, count_cons p row (staying leaves rows))
 
 -- ---- what a status says of a disk
 

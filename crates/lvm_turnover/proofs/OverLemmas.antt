@@ -83,7 +83,7 @@ module _ (c : Change) (old : State) (may : MayTurnSession c old) (turn : Turn) (
   back : ComesBack (is_there old.core) (has written) 0 old.device m buf
   back = gives.ends.0
 
-  has_turned : HasTurned turn (IsBefore turn (is_there old.core) old.core.status.stamp old.core.homes old.device) (has written) (after_turn old.core.status.stamp) slots m
+  has_turned : HasTurned turn (IsBefore turn (is_there old.core) old.core.status.stamp old.core.homes old.device) (has written) (after_turn old.core.status.stamp) old.core.homes slots m
   has_turned = gives.ends.1
 
   valid : IsValid next

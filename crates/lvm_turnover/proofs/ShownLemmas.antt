@@ -10,10 +10,10 @@ use Rattle.lvm_num.specs.DescriptorBytes.{descriptor_of}
 use Rattle.lvm_num.specs.Record.{Stamped}
 use Rattle.lvm_num.proofs.Booleans.{clash, second_holds}
 use Rattle.lvm_rec.specs.declared.homes.Homes.{Homes}
-use Rattle.lvm_rec.specs.Slots.{slot_for}
+use Rattle.lvm_rec.specs.Slots.{slot_for, newest_on}
 use Rattle.lvm_disk.specs.Counts.{Rose}
 use Rattle.lvm_disk.specs.Device.{Image}
-use Rattle.lvm_kept.specs.Contents.{contents_of, descriptor_on, has_records, newest_on}
+use Rattle.lvm_kept.specs.Contents.{contents_of, descriptor_on, has_records}
 use Rattle.lvm_kept.specs.Plans.{ChangesBy}
 use Rattle.lvm_kept.proofs.PlacesLemmas.{room-same}
 use Rattle.lvm_status.specs.Update.{Stored}

@@ -100,11 +100,11 @@ numbers_for joins erases = 3 + 6 * (length joins + length erases)
 
 -- What a change leaves that may commit descriptors of which this holds, touch the records of disks that join and of disks that leave, and spend so many numbers, with the patience
 -- before and after, whatever its answer.
-pub record LeavesWithin (numbers : ℕ) (N : Descriptor → Type 0) (joins erases : List ℕ) (before after : ℕ) (old new : State) : Type 0 where
+pub record LeavesWithin (most : ℕ) (N : Descriptor → Type 0) (joins erases : List ℕ) (before after : ℕ) (old new : State) : Type 0 where
   pub writes : KeepsShelf (among joins (among erases (is_there old.core))) (IsOfChange N joins erases old new) old.device new.device
   pub status : KeepsMarks N joins erases old new
   -- the stamps are of the same session, and rise
-  pub numbers : SpendsNumbers numbers old.core.status new.core.status
+  pub numbers : SpendsNumbers most old.core.status new.core.status
   pub history : KeepsHistory old.core.history new.core.history
   -- a span that leads here goes on, where the disks hold what the session says by whatever was told before it
   pub spans : (run : ℕ) (first : Moment) → IsHeldSince run first old → SpanGoesOn run first (moment_of old) (moment_of new)

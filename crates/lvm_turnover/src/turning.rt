@@ -17,7 +17,7 @@ ghost use Rattle.lvm_core.specs.Committing.{with_one_out};
 ghost use Rattle.lvm_core.specs.Steps.{EndsAs};
 ghost use Rattle.lvm_change.specs.Parting.{PartsWith};
 ghost use Rattle.lvm_mwc.specs.Cache.{flight_on};
-ghost use Rattle.lvm_turnover.specs.Turning.{IsPrepared, MaySend, MayTurnSession, IsSent, IsSettledBy, BeginsWith, TurnsSession, core_after};
+ghost use Rattle.lvm_turnover.specs.Turning.{IsPrepared, IsTurnBy, MaySend, MayTurnSession, IsSent, IsSettledBy, BeginsWith, TurnsSession, core_after};
 
 use crate::change::{Change, Leaving};
 use lvm_change::{Turn, Turned, next_stamp, part_with, turn_over, without};
@@ -25,7 +25,7 @@ use lvm_commit::{CommitEnd, commit_status};
 use lvm_core::CommitFault;
 use lvm_core::below::{Patience, Power};
 use lvm_disk::Shelf;
-use lvm_num::{DiskSet, Pbuf};
+use lvm_num::{Descriptor, DiskSet, Pbuf};
 use lvm_session::{Session, darken};
 use lvm_status::{StaleTable, members_there};
 
@@ -103,13 +103,7 @@ fn send<S: Shelf>(
     let last = next_stamp(first);
     session.updater.set_stamp(last);
     let count = spell_status(session, change.tables.told());
-    let turn = Turn {
-        was: &session.descriptor,
-        next: &change.next,
-        told: change.tables.told().as_status(),
-        status: &session.bytes[..count],
-        content: change.content.as_slice(),
-    };
+    let turn = turn_by(change, &session.descriptor, &session.bytes[..count]);
     turn_over(
         shelf,
         turn,
@@ -119,6 +113,21 @@ fn send<S: Shelf>(
         buf,
         patience,
     )
+}
+
+// The turn to the next descriptor from the one that is committed, with these bytes of its status.
+fn turn_by<'a>(change: &'a Change, was: &'a Descriptor, status: &'a [u8]) -> Turn<'a>
+    requires prepared { IsPrepared change.now }
+    requires status { status.now ≡ status_bytes change.now.tables.told }
+    ensures { IsTurnBy change.now was.now result }
+{
+    Turn {
+        was,
+        next: &change.next,
+        told: change.tables.told().as_status(),
+        status,
+        content: change.content.as_slice(),
+    }
 }
 
 // Writes the bytes of a status to the front of those that the session has room for, and answers how many these are.

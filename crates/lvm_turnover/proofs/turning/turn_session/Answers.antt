@@ -9,13 +9,15 @@ use Rattle.lvm_status.specs.Update.{Stored, members_there}
 use Rattle.lvm_write.specs.Written.{written_well}
 use Rattle.lvm_commit.specs.Settling.{IsOf, MayCommit}
 use Rattle.lvm_session_start.specs.passed.Names.{IsOut}
+use Rattle.lvm_mwc.specs.Cache.{flight_on}
+use Rattle.lvm_turnover.specs.Turning.{core_after, unreached}
 use Rattle.lvm_session.specs.Dark.{all_dark}
 use Rattle.lvm_session.specs.Fields.{core_of}
 use Rattle.lvm_session.specs.State.{Core, State, state}
 use Rattle.lvm_core.specs.Sound.{HasNoneOpen}
 use Rattle.lvm_core.proofs.SoundLemmas.Dark.{may_end}
 use Rattle.lvm_core.proofs.CommittingLemmas.Buffers.{one_is_out}
-use Rattle.lvm_turnover.proofs.BeginningLemmas.{begun_of, begun_idle, begun_own_rows, unreached_member, unreached_next}
+use Rattle.lvm_turnover.proofs.BeginningLemmas.{unreached_member, unreached_next}
 use Rattle.lvm_turnover.proofs.SendingLemmas.{may_send, turns, takes_over, over_may, done_number, gives_up, off_number}
 use Rattle.lvm_turnover.proofs.turning.turn_session.Goals as goal
 
@@ -25,21 +27,28 @@ send-requires-clause-may g c =
     may_send c.args.change (has c.members_there-there.result) (state (g.S.Shelf.device c.args.shelf.now) (core_of self)) c.requires.may
     (c.members_there-there.ensures ∙ ap (λ (s : Status). members_there self.descriptor s) c.wanted.ensures)
 
-pub take_over-requires-clause-own : goal.take_over-requires-clause-own
-take_over-requires-clause-own g c = begun_of c.args.change (state (g.S.Shelf.device c.args.shelf.now) (core_of c.args.session.now)) c.requires.may
+pub take_over-requires-clause-valid : goal.take_over-requires-clause-valid
+take_over-requires-clause-valid g c = c.requires.may.change.valid_next
 
-pub take_over-requires-clause-idle : goal.take_over-requires-clause-idle
-take_over-requires-clause-idle g c = begun_idle c.args.change (state (g.S.Shelf.device c.args.shelf.now) (core_of c.args.session.now)) c.requires.may
+pub take_over-requires-clause-prepared : goal.take_over-requires-clause-prepared
+take_over-requires-clause-prepared g c = c.requires.may.ready.prepared
 
 pub take_over-requires-clause-rows : goal.take_over-requires-clause-rows
-take_over-requires-clause-rows g c = begun_own_rows c.args.change (state (g.S.Shelf.device c.args.shelf.now) (core_of c.args.session.now)) c.requires.may
+take_over-requires-clause-rows g c = c.requires.may.ready.told.rows
+
+pub take_over-requires-clause-idle : goal.take_over-requires-clause-idle
+take_over-requires-clause-idle g c = ap (λ (k : Core). k.status.in_flight) c.in-Done.ensures.sent.is ∙ c.requires.may.commit.settle.idle
+
+pub take_over-requires-clause-still : goal.take_over-requires-clause-still
+take_over-requires-clause-still g c = λ disk. ap (λ (k : Core). flight_on k.cache disk) c.in-Done.ensures.sent.is ∙ c.requires.may.still disk
 
 pub take_over-requires-clause-members : goal.take_over-requires-clause-members
 take_over-requires-clause-members g c =
     let self = c.args.session.now in
-    let there_is = c.members_there-there.ensures ∙ ap (λ (s : Status). members_there self.descriptor s) c.wanted.ensures in
-    λ disk is. unreached_next c.args.change (state (g.S.Shelf.device c.args.shelf.now) (core_of self)) c.requires.may c.in-Done.written disk
-    (subst (λ (set : Disks). IsTrue (set disk)) (c.without.ensures ∙ ap (λ (set : Disks). written_well set (has c.in-Done.written)) there_is) is)
+    let old : State = state (g.S.Shelf.device c.args.shelf.now) (core_of self) in
+    let lost_is : has c.without.result ≡ unreached c.args.change.next (core_of self) c.in-Done.written =
+    c.without.ensures ∙ ap (λ (set : Disks). written_well set (has c.in-Done.written)) (c.members_there-stay.ensures ∙ ap (λ (s : Status). members_there c.args.change.next s) c.wanted-2.ensures) in
+    λ disk is. unreached_next c.args.change old c.requires.may c.in-Done.written disk (subst (λ (set : Disks). IsTrue (set disk)) lost_is is)
 
 pub settle-requires-clause-may : goal.settle-requires-clause-may
 settle-requires-clause-may g c =
@@ -49,7 +58,7 @@ settle-requires-clause-may g c =
     let there_is = c.members_there-there.ensures ∙ ap (λ (s : Status). members_there self.descriptor s) c.wanted.ensures in
     let first : Stored = c.take_over.new.session.updater in
     subst (λ (d : Descriptor). MayCommit 1 d first m) (sym (ap (λ (k : Core). k.descriptor) c.take_over.ensures.core))
-    (over_may c.args.change c.args.patience.now.left c.send.new.patience.left old m (core_of c.send.new.session) (has c.members_there-there.result) c.in-Done.written c.in-Done.buf there_is c.in-Done.ensures.sent c.requires.may c.without.result c.without.ensures first c.take_over.ensures.parts)
+    (over_may c.args.change c.args.patience.now.left c.send.new.patience.left old m (core_of c.send.new.session) (has c.members_there-there.result) c.in-Done.written c.in-Done.buf there_is c.in-Done.ensures.sent c.requires.may c.without.result (c.without.ensures ∙ ap (λ (set : Disks). written_well set (has c.in-Done.written)) (c.members_there-stay.ensures ∙ ap (λ (s : Status). members_there c.args.change.next s) c.wanted-2.ensures)) first c.take_over.ensures.parts)
 
 pub settle-requires-clause-bytes : goal.settle-requires-clause-bytes
 settle-requires-clause-bytes g c =
@@ -61,12 +70,12 @@ settle-requires-clause-bytes g c =
 pub settle-requires-clause-none : goal.settle-requires-clause-none
 settle-requires-clause-none g c =
     let sent = c.in-Done.ensures.sent in
-    subst HasNoneOpen (sym (c.take_over.ensures.core ∙ ap (λ (k : Core). record k { descriptor = c.args.change.next; status = c.take_over.new.session.updater }) sent.is)) (record { requests = c.requires.none.requests; copy = c.requires.none.copy })
+    subst HasNoneOpen (sym (c.take_over.ensures.core ∙ ap (λ (k : Core). record (core_after c.args.change.leaving k) { descriptor = c.args.change.next; status = c.take_over.new.session.updater }) sent.is)) (record { requests = c.requires.none.requests; copy = c.requires.none.copy })
 
 pub settle-requires-clause-out : goal.settle-requires-clause-out
 settle-requires-clause-out g c =
     let sent = c.in-Done.ensures.sent in
-    subst (λ (k : Core). IsOut k.pool 0) (sym (c.take_over.ensures.core ∙ ap (λ (k : Core). record k { descriptor = c.args.change.next; status = c.take_over.new.session.updater }) sent.is)) (one_is_out c.args.session.now.pool 0 refl c.requires.some)
+    subst (λ (k : Core). IsOut k.pool 0) (sym (c.take_over.ensures.core ∙ ap (λ (k : Core). record (core_after c.args.change.leaving k) { descriptor = c.args.change.next; status = c.take_over.new.session.updater }) sent.is)) (one_is_out c.args.session.now.pool 0 refl c.requires.some)
 
 pub settle-requires-clause-number : goal.settle-requires-clause-number
 settle-requires-clause-number g c =
@@ -87,11 +96,11 @@ returns-in-Done-clause-does g c =
     let r = c.settle.new.patience.left in
     let sent = c.in-Done.ensures.sent in
     turns c.args.change p q r old new m (core_of c.send.new.session) (has c.members_there-there.result) _ c.settle.result there_is sent
-    (takes_over c.args.change p q r old new m (core_of c.send.new.session) (has c.members_there-there.result) _ c.settle.result there_is sent c.in-Done.written c.without.result c.without.ensures c.take_over.new.session.updater (core_of c.take_over.new.session)
+    (takes_over c.args.change p q r old new m (core_of c.send.new.session) (has c.members_there-there.result) _ c.settle.result there_is sent c.in-Done.written c.without.result (c.without.ensures ∙ ap (λ (set : Disks). written_well set (has c.in-Done.written)) (c.members_there-stay.ensures ∙ ap (λ (s : Status). members_there c.args.change.next s) c.wanted-2.ensures)) c.take_over.new.session.updater (core_of c.take_over.new.session)
     c.take_over.ensures.core c.take_over.ensures.parts c.settle.ensures.settles)
 
 pub give_up-requires-clause-valid : goal.give_up-requires-clause-valid
-give_up-requires-clause-valid g c = subst (λ (k : Core). IsValid k.descriptor) (sym c.in-WentOff.ensures.sent.is) c.requires.may.rule.valid
+give_up-requires-clause-valid g c = subst (λ (k : Core). IsValid k.descriptor) (sym c.in-WentOff.ensures.sent.is) c.requires.may.change.valid
 
 pub give_up-requires-clause-own : goal.give_up-requires-clause-own
 give_up-requires-clause-own g c = subst (λ (k : Core). IsOf k.descriptor k.status) (sym c.in-WentOff.ensures.sent.is) c.requires.may.commit.settle.own

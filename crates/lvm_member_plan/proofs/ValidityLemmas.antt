@@ -13,7 +13,7 @@ use Rattle.lvm_num.specs.Disks.{Disks}
 use Rattle.lvm_num.proofs.Lists.{few_filter}
 use Rattle.lvm_core.specs.Committing.{is_in}
 use Rattle.lvm_change_laws.specs.Rule.{staying}
-use Rattle.lvm_reduce.specs.Descriptors.{without_members, with_even}
+use Rattle.lvm_member_plan.specs.Descriptors.{without_members, with_even}
 
 -- the row of a disk that stays is found as before
 pub staying_found : (leaves : Disks) (d : ℕ) (rows : List PvRow) (row : PvRow) → leaves d ≡ false → find (λ (r : PvRow). r.disk == d) rows ≡ Some row → find (λ (r : PvRow). r.disk == d) (staying leaves rows) ≡ Some row

@@ -1,20 +1,20 @@
 //! The descriptors of a group on the way to one with fewer members.
 ghost use Rattle.std.specs.Prelude.{◌≡◌, IfOk};
 ghost use Rattle.lvm_core.specs.Committing.{is_in};
-ghost use Rattle.lvm_reduce.specs.Descriptors.{without_members, with_even, is_first, is_used};
+ghost use Rattle.lvm_member_plan.specs.Descriptors.{without_members, with_even, is_first, is_used};
 
 use lvm_num::{Descriptor, Memory, Rows, clone_descriptor, has_partition_on};
 use std::alloc::Global;
 
 /// Whether a disk is one of these.
-pub(crate) fn is_in(disks: &[u16], disk: u16) -> bool
+pub fn is_in(disks: &[u16], disk: u16) -> bool
     ensures { result ≡ is_in disks.now disk }
 {
     disks.iter().any(|other| disk == *other)
 }
 
 /// The group without its members on these disks, even or not.
-pub(crate) fn without_members(
+pub fn without_members(
     alloc: Global,
     d: &Descriptor,
     disks: &[u16],
@@ -35,7 +35,7 @@ pub(crate) fn without_members(
 }
 
 /// The group even or not.
-pub(crate) fn with_even(alloc: Global, d: &Descriptor, even: bool) -> Result<Descriptor, Memory>
+pub fn with_even(alloc: Global, d: &Descriptor, even: bool) -> Result<Descriptor, Memory>
     ensures { IfOk result (λ next. next ≡ with_even even d.now) }
 {
     let mut next = clone_descriptor(alloc, d)?;
@@ -44,7 +44,7 @@ pub(crate) fn with_even(alloc: Global, d: &Descriptor, even: bool) -> Result<Des
 }
 
 /// Whether the disk is that of the first member.
-pub(crate) fn is_first(d: &Descriptor, disk: u16) -> bool
+pub fn is_first(d: &Descriptor, disk: u16) -> bool
     ensures { result ≡ is_first d.now disk }
 {
     match d.pvs.as_slice().first() {
@@ -54,7 +54,7 @@ pub(crate) fn is_first(d: &Descriptor, disk: u16) -> bool
 }
 
 /// Whether a volume has a partition on the disk.
-pub(crate) fn is_used(d: &Descriptor, disk: u16) -> bool
+pub fn is_used(d: &Descriptor, disk: u16) -> bool
     ensures { result ≡ is_used d.now disk }
 {
     d.lvs

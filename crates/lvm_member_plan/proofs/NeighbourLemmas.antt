@@ -13,7 +13,7 @@ use Rattle.lvm_core.specs.Committing.{is_in}
 use Rattle.lvm_change_votes.specs.Meeting.{AreNeighbours, HasMembers, disks_of}
 use Rattle.lvm_change_votes.proofs.MeetingLemmas.{same_members_meet, one_more_meets, lasting_meets}
 use Rattle.lvm_change_laws.specs.Rule.{staying}
-use Rattle.lvm_reduce.specs.Descriptors.{is_head, is_first, without_members, with_even}
+use Rattle.lvm_member_plan.specs.Descriptors.{is_head, is_first, without_members, with_even}
 
 abbrev disks_in : List PvRow → List ℕ
 disks_in rows = map (λ (row : PvRow). row.disk) rows

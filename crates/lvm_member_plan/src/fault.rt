@@ -1,9 +1,5 @@
 //! Why members didn't leave a group.
 
-ghost use Rattle.lvm_reduce.specs.Answers.{IsOfRecords, IsFaultOf};
-
-use lvm_core::CommitFault;
-
 /// Why members didn't leave a group.
 #[derive(Clone, Copy, Drop)]
 pub enum ReduceFault {
@@ -27,17 +23,4 @@ pub enum ReduceFault {
     Stuck,
     /// Want of memory.
     Memory,
-}
-
-// The fault of the command whose records or zeros were broken off by this one.
-pub(crate) fn reduce_fault(fault: CommitFault) -> ReduceFault
-    requires { IsOfRecords fault }
-    ensures { IsFaultOf fault result }
-{
-    match fault {
-        CommitFault::Dark => ReduceFault::Dark,
-        CommitFault::WentOff { have, total } => ReduceFault::WentOff { have, total },
-        CommitFault::Stuck => ReduceFault::Stuck,
-        CommitFault::DiskFailed { .. } => unreachable!(),
-    }
 }

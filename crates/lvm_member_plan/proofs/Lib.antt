@@ -1,0 +1,3 @@
+pub mod ValidityLemmas
+pub mod NeighbourLemmas
+pub mod StepsLemmas
