@@ -21,11 +21,11 @@ disks_in rows = map (λ (row : PvRow). row.disk) rows
 -- where the disk is none of theirs, all stay
 none_goes : (x : ℕ) (rows : List PvRow) → ((k : ℕ) (e : PvRow) → k < length rows → x ≢ (get_or rows k e).disk) → staying (is_in (x ∷ [])) rows ≡ rows
 none_goes x [] apart = refl
-none_goes x (row ∷ rows) apart = by (is_in (x ∷ []) row.disk) (or_false (row.disk == x) ∙ ne_eqb row.disk x (λ same. apart zero row (omega arith) (sym same)))
+none_goes x (row ∷ rows) apart = by (is_in (x ∷ []) row.disk) (or_false (row.disk == x) ∙ ne_eqb row.disk x (λ same. apart zero row (omega arith) (sym same))) (none_goes x rows (λ k e few. apart (suc k) e (omega (arith, few))))
   where
-    by : (b : Bool) → b ≡ false → (if not b then row ∷ staying (is_in (x ∷ [])) rows else staying (is_in (x ∷ [])) rows) ≡ row ∷ rows
-    by true is = absurd (false≢true (sym is))
-    by false is = ap (λ (rest : List PvRow). row ∷ rest) (none_goes x rows (λ k e few. apart (suc k) e (omega (arith, few))))
+    by : (b : Bool) → b ≡ false → staying (is_in (x ∷ [])) rows ≡ rows → (if not b then row ∷ staying (is_in (x ∷ [])) rows else staying (is_in (x ∷ [])) rows) ≡ row ∷ rows
+    by true is rest = absurd (false≢true (sym is))
+    by false is rest = ap (λ (l : List PvRow). row ∷ l) rest
 
 -- The members before one and behind it; it isn't the first where some are before.
 pub record IsSplitAt (x : ℕ) (rows : List PvRow) : Type 0 where
@@ -38,10 +38,10 @@ pub record IsSplitAt (x : ℕ) (rows : List PvRow) : Type 0 where
 
 pub split_at : (x : ℕ) (rows : List PvRow) → AllPairs (λ (a b : PvRow). a.disk ≢ b.disk) rows → IsTrue (list_any (λ (row : PvRow). row.disk == x) rows) → IsSplitAt x rows
 split_at x [] apart member = absurd (false≢true member)
-split_at x (row ∷ rows) apart member = by (row.disk == x) refl member
+split_at x (row ∷ rows) apart member = by (row.disk == x) refl member (split_at x rows (pairs_tail (λ (a b : PvRow). a.disk ≢ b.disk) row rows apart))
   where
-    by : (b : Bool) → (row.disk == x) ≡ b → IsTrue (b || list_any (λ (r : PvRow). r.disk == x) rows) → IsSplitAt x (row ∷ rows)
-    by true here member =
+    by : (b : Bool) → (row.disk == x) ≡ b → IsTrue (b || list_any (λ (r : PvRow). r.disk == x) rows) → (IsTrue (list_any (λ (r : PvRow). r.disk == x) rows) → IsSplitAt x rows) → IsSplitAt x (row ∷ rows)
+    by true here member behind =
         let same : row.disk ≡ x = eqb-true row.disk x here in
         let stay : staying (is_in (x ∷ [])) rows ≡ rows = none_goes x rows (λ k e few also. pairs_head (λ (a b : PvRow). a.disk ≢ b.disk) row rows apart k e few (same ∙ also)) in
         let gone : staying (is_in (x ∷ [])) (row ∷ rows) ≡ rows = ap (λ (t : Bool). if not t then row ∷ staying (is_in (x ∷ [])) rows else staying (is_in (x ∷ [])) rows) (or_false (row.disk == x) ∙ here) ∙ stay in
@@ -53,8 +53,8 @@ split_at x (row ∷ rows) apart member = by (row.disk == x) refl member
           fewer = ap (λ (l : List PvRow). suc (length l)) (sym gone);
           first = λ isnt. absurd (false≢true (sym isnt ∙ here));
         }
-    by false apart_here member =
-        let rest = split_at x rows (pairs_tail (λ (a b : PvRow). a.disk ≢ b.disk) row rows apart) member in
+    by false apart_here member behind =
+        let rest = behind member in
         let stays : staying (is_in (x ∷ [])) (row ∷ rows) ≡ row ∷ staying (is_in (x ∷ [])) rows = ap (λ (t : Bool). if not t then row ∷ staying (is_in (x ∷ [])) rows else staying (is_in (x ∷ [])) rows) (or_false (row.disk == x) ∙ apart_here) in
         record {
           before = row.disk ∷ rest.before;

@@ -1,9 +1,10 @@
 //! The descriptors of a group on the way to one with fewer members.
 ghost use Rattle.std.specs.Prelude.{◌≡◌, IfOk};
 ghost use Rattle.lvm_core.specs.Committing.{is_in};
+ghost use Rattle.lvm_change_laws.specs.Rule.{staying};
 ghost use Rattle.lvm_member_plan.specs.Descriptors.{without_members, with_even, is_first, is_used};
 
-use lvm_num::{Descriptor, Memory, Rows, clone_descriptor, has_partition_on};
+use lvm_num::{Descriptor, Memory, PvRow, Rows, clone_descriptor, has_partition_on};
 use std::alloc::Global;
 
 /// Whether a disk is one of these.
@@ -22,16 +23,24 @@ pub fn without_members(
 ) -> Result<Descriptor, Memory>
     ensures { IfOk result (λ next. next ≡ without_members disks.now even d.now) }
 {
-    let mut pvs = Vec::new(alloc);
-    for row in d.pvs.as_slice() {
-        if !is_in(disks, row.disk) {
-            pvs.push(*row)?;
-        }
-    }
+    let pvs = staying(alloc, d.pvs.as_slice(), disks)?;
     let mut next = clone_descriptor(alloc, d)?;
     next.pvs = Rows::new(pvs);
     next.even = even;
     Ok(next)
+}
+
+// The members that aren't on these disks.
+fn staying(alloc: Global, rows: &[PvRow], disks: &[u16]) -> Result<Vec<PvRow>, Memory>
+    ensures { IfOk result (λ pvs. pvs.items ≡ staying (is_in disks.now) rows.now) }
+{
+    let mut pvs = Vec::new(alloc);
+    for row in rows {
+        if !is_in(disks, row.disk) {
+            pvs.push(*row)?;
+        }
+    }
+    Ok(pvs)
 }
 
 /// The group even or not.
