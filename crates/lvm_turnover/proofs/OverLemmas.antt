@@ -243,8 +243,8 @@ module _ (c : Change) (old : State) (may : MayTurnSession c old) (turn : Turn) (
       apart = by_test (there first disk) refl
         where
           by_test : (t : Bool) → there first disk ≡ t → t ≡ false
-          by_test true on = absurd (false≢true (sym out ∙ second_holds (has written disk) (is_member next disk) (subst (λ (set : Disks). IsTrue (set disk)) there_is on)))
-          by_test false on = refl
+          by_test true its = absurd (false≢true (sym out ∙ second_holds (has written disk) (is_member next disk) (subst (λ (set : Disks). IsTrue (set disk)) there_is its)))
+          by_test false its = refl
 
   -- it was written where no transfer to it failed
   pub over_written : (disk : ℕ) → IsTrue (is_there old.core disk) → old.device.counts.faults disk < 2 ^ 64 - 1 → new.device.counts.faults disk ≡ old.device.counts.faults disk → IsTrue (has written disk)

@@ -1,23 +1,18 @@
 -- A disk that left goes on showing the next descriptor while a status is written to the others.
-use Rattle.std.proofs.Common.{◌≡◌, ⊎_elim, ℕ, ◌<◌, ◌^◌, ◌-◌, Bool, true, false, ◌&&◌, Some, None, IfSome, sym, ◌∙◌, ap, subst, arith}
-use Rattle.std.specs.Prelude.{IsTrue, IsFalse, if◌then◌else◌, Result}
+use Rattle.std.proofs.Common.{◌≡◌, ⊎_elim, ℕ, ◌<◌, ◌^◌, ◌-◌, Bool, None, ◌∙◌, ap, arith}
+use Rattle.std.specs.Prelude.{IsFalse, if◌then◌else◌}
 use Rattle.lvm_num.specs.declared.record.Kind.TheVariants as kind
 use Rattle.lvm_num.specs.declared.descriptor.Descriptor.{Descriptor}
-use Rattle.lvm_num.specs.Buffer.{Buffer, Sector}
-use Rattle.lvm_num.specs.Descriptor.{is_member}
-use Rattle.lvm_num.specs.Disks.{Disks, has}
 use Rattle.lvm_num.specs.DescriptorBytes.{descriptor_of}
-use Rattle.lvm_num.specs.Record.{Stamped}
-use Rattle.lvm_num.proofs.Booleans.{clash, second_holds}
+use Rattle.lvm_num.proofs.Booleans.{clash}
 use Rattle.lvm_rec.specs.declared.homes.Homes.{Homes}
 use Rattle.lvm_rec.specs.Slots.{slot_for, newest_on}
 use Rattle.lvm_disk.specs.Counts.{Rose}
 use Rattle.lvm_disk.specs.Device.{Image}
-use Rattle.lvm_kept.specs.Contents.{contents_of, descriptor_on, has_records}
+use Rattle.lvm_kept.specs.Contents.{descriptor_on, has_records}
 use Rattle.lvm_kept.specs.Plans.{ChangesBy}
 use Rattle.lvm_kept.proofs.PlacesLemmas.{room-same}
 use Rattle.lvm_status.specs.Update.{Stored}
-use Rattle.lvm_write.proofs.WrittenLemmas.Writing.{if_told, told_at, both_from}
 use Rattle.lvm_commit.specs.Settling.{there, IsOfStatus}
 use Rattle.lvm_change_laws.specs.Rule.{IsShownOn}
 

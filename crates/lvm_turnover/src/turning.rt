@@ -104,15 +104,7 @@ fn send<S: Shelf>(
     session.updater.set_stamp(last);
     let count = spell_status(session, change.tables.told());
     let turn = turn_by(change, &session.descriptor, &session.bytes[..count]);
-    turn_over(
-        shelf,
-        turn,
-        stamp,
-        there,
-        &mut session.homes,
-        buf,
-        patience,
-    )
+    turn_over(shelf, turn, stamp, there, &mut session.homes, buf, patience)
 }
 
 // The turn to the next descriptor from the one that is committed, with these bytes of its status.
