@@ -1,40 +1,24 @@
 //! One turn of a group on its way, where the votes are enough for it.
-ghost use Rattle.std.specs.Prelude.{◌≡◌, IfSome, IfNone, IsFalse};
-ghost use Rattle.lvm_num.specs.Descriptor.{IsValid};
-ghost use Rattle.lvm_num.specs.Disks.{has};
-ghost use Rattle.lvm_num.specs.Votes.{votes_in, total_votes, is_enough_to_write, CanWrite};
+ghost use Rattle.std.specs.Prelude.{◌≡◌};
 ghost use Rattle.lvm_session.specs.declared.open.Power.TheVariants as power;
 ghost use Rattle.lvm_volume_plan.specs.PlannedVolume.{AreOfOneGroup};
 ghost use Rattle.lvm_core.specs.State.{state_of};
 ghost use Rattle.lvm_core.specs.Settled.{IsSettled, HasSpareNumbers};
 ghost use Rattle.lvm_turnover.specs.Changing.{IsNext, LeavesWithin};
 ghost use Rattle.lvm_turnover.specs.Turning.{IsPrepared, ShowsGone, disks_leaving};
-ghost use Rattle.lvm_reduce.specs.Steps.{IsStep, StepEnds};
+ghost use Rattle.lvm_member_plan.specs.Steps.{IsStep};
+ghost use Rattle.lvm_member_steps.specs.Steps.{StepEnds};
 
 use lvm_core::below::Patience;
 use lvm_core::{CommandDriver, CommitFault};
 use lvm_disk::Shelf;
-use lvm_num::{Descriptor, DiskSet};
+use lvm_member_plan::few_votes;
 use lvm_session::Power;
 use lvm_status::members_there;
 use lvm_turnover::{Change, turn_group};
 
-/// The votes of disks by a descriptor and those of all, where they are too few to write.
-pub(crate) fn few_votes(d: &Descriptor, there: DiskSet) -> Option<(u32, u32)>
-    requires { IsValid d.now }
-    ensures few { IfSome result (λ votes. (votes.0 ≡ votes_in d.now (has there)) × (votes.1 ≡ total_votes d.now) × IsFalse (is_enough_to_write d.now votes.0)) }
-    ensures enough { IfNone result (CanWrite d.now (has there)) }
-{
-    let have = d.votes_in(there);
-    if d.enough_to_write(have) {
-        None
-    } else {
-        Some((have, d.total_votes()))
-    }
-}
-
 /// Turns a group to its next descriptor. Where the members that aren't missing have too few votes to write by it, nothing is written, and the session goes off.
-pub(crate) fn step<S: Shelf>(
+pub fn step<S: Shelf>(
     driver: CommandDriver<S>,
     change: Change,
     patience: &mut Patience,

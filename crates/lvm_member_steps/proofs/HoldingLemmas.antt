@@ -37,7 +37,7 @@ use Rattle.lvm_volumes.specs.Endings.{StillHeld, KeepsFresh, HasFresh}
 use Rattle.lvm_volumes.proofs.EndingsLemmas.Fresh.{HasOnePlaceEach, no_copy, volume_stays}
 use Rattle.lvm_volumes.proofs.EndingsLemmas.Notes.{SparesNotes, command_spares, notes_stay}
 use Rattle.lvm_member_plan.specs.Descriptors.{without_members}
-use Rattle.lvm_reduce.specs.Steps.{IsStep}
+use Rattle.lvm_member_plan.specs.Steps.{IsStep}
 
 -- ---- notes
 

@@ -1,7 +1,6 @@
 -- One step of a group on its way to fewer members, and how it ends.
 use Rattle.std.specs.Prelude.{◌≡◌, ◌⊎◌, ℕ, List, Option, Result, Ok, Err, IsTrue, IsFalse}
 use Rattle.lvm_num.specs.declared.descriptor.Descriptor.{Descriptor}
-use Rattle.lvm_num.specs.Descriptor.{IsValid}
 use Rattle.lvm_num.specs.Votes.{votes_in, total_votes, is_enough_to_write}
 use Rattle.lvm_disk.specs.Counts.{NoneFalls}
 use Rattle.lvm_disk.specs.Device.{IsReady}
@@ -12,20 +11,12 @@ use Rattle.lvm_core.specs.declared.fault.CommitFault.{CommitFault}
 use Rattle.lvm_core.specs.declared.fault.CommitFault.TheVariants as fault
 use Rattle.lvm_core.specs.Committing.{HasGoneDark, IsLeftOut}
 use Rattle.lvm_core.specs.Settled.{IsSettled}
-use Rattle.lvm_change_votes.specs.Meeting.{AreNeighbours}
 use Rattle.lvm_volume_plan.specs.PlannedVolume.{AreOfOneGroup}
 use Rattle.lvm_volumes.specs.Endings.{StillHeld, KeepsFresh}
 use Rattle.lvm_turnover.specs.declared.change.Leaving.{Leaving}
 use Rattle.lvm_turnover.specs.Changing.{HasGoneOffBy}
 use Rattle.lvm_turnover.specs.Turning.{core_after}
-use Rattle.lvm_member_plan.specs.Descriptors.{without_members, IsReducedBy}
-
--- Members on these disks leave, or none, and two members become even or are so no more: what can read the one descriptor meets what can read the other.
-pub record IsStep (leaving : List ℕ) (group next : Descriptor) : Type 0 where
-  pub valid : IsValid group
-  pub valid_next : IsValid next
-  pub is : next ≡ without_members leaving next.even group
-  pub near : AreNeighbours group next
+use Rattle.lvm_member_plan.specs.Descriptors.{IsReducedBy}
 
 -- The members that aren't missing have these votes by the next descriptor, too few to write: the session has gone off, and nothing was written.
 pub record WentOffAtOnce (next : Descriptor) (have total : ℕ) (old new : State) : Type 0 where

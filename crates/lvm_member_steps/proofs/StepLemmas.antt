@@ -1,6 +1,7 @@
 -- When a step may be made, and how it ends.
 use Rattle.std.proofs.Common.{◌≡◌, ◌⊎◌, inl, inr, ⊎_elim, ℕ, Bool, true, false, List, refl, sym, ◌∙◌, ap, subst}
 use Rattle.std.specs.Prelude.{Option, Result, Ok, Err, IsTrue}
+use Rattle.lvm_num.specs.declared.descriptor.PvRow.{PvRow}
 use Rattle.lvm_num.specs.declared.descriptor.Descriptor.{Descriptor}
 use Rattle.lvm_num.specs.declared.status.Status.{Status}
 use Rattle.lvm_num.specs.Disks.{Disks}
@@ -16,13 +17,14 @@ use Rattle.lvm_core.specs.declared.fault.CommitFault.TheVariants as fault
 use Rattle.lvm_core.specs.Committing.{is_in}
 use Rattle.lvm_core.specs.Settled.{IsSettled}
 use Rattle.lvm_core.specs.Sound.{IsSoundAtRest}
-use Rattle.lvm_change_laws.specs.Rule.{MayChange}
+use Rattle.lvm_change_laws.specs.Rule.{MayChange, staying}
 use Rattle.lvm_turnover.specs.declared.change.Leaving.{Leaving}
 use Rattle.lvm_turnover.specs.Changing.{EndsFrom, IsNext, LeavesWithin, with_descriptor}
 use Rattle.lvm_turnover.specs.Turning.{disks_leaving, state_after}
 use Rattle.lvm_member_plan.specs.Descriptors.{IsReducedBy}
-use Rattle.lvm_reduce.specs.Steps.{IsStep, StepEnds, HasComeTo, BreaksOff, WentOffAtOnce}
-use Rattle.lvm_reduce.proofs.HoldingLemmas.{step_before, step_fresh, step_still}
+use Rattle.lvm_member_plan.specs.Steps.{IsStep}
+use Rattle.lvm_member_steps.specs.Steps.{StepEnds, HasComeTo, BreaksOff, WentOffAtOnce}
+use Rattle.lvm_member_steps.proofs.HoldingLemmas.{step_before, step_fresh, step_still}
 
 -- ---- before it
 
@@ -37,8 +39,8 @@ may_step leaving group next there step enough enough_too = record {
   found = by_quorum group.quorum refl;
 }
   where
-    group_pvs : List Rattle.lvm_num.specs.declared.descriptor.PvRow.PvRow
-    group_pvs = Rattle.lvm_change_laws.specs.Rule.staying (is_in leaving) group.pvs
+    group_pvs : List PvRow
+    group_pvs = staying (is_in leaving) group.pvs
 
     quorum_is : group.quorum ≡ next.quorum
     quorum_is = sym (ap (λ (g : Descriptor). g.quorum) step.is)
