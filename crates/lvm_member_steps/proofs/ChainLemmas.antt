@@ -24,6 +24,7 @@ use Rattle.lvm_core.specs.Held.{IsHeld}
 use Rattle.lvm_core.specs.Leaves.{NoPartition, WasLeftBehind, MayBeFound}
 use Rattle.lvm_volumes.proofs.Leaving.{rose_on, rose_from, wider}
 use Rattle.lvm_turnover.specs.Changing.{among, IsOfChange, KeepsMarks, LeavesWithin}
+use Rattle.lvm_member_steps.specs.Steps.{LeavesIf}
 
 -- ---- more may be done
 
@@ -78,10 +79,11 @@ module _ (M N : Descriptor → Type 0) (D E : List ℕ) (more : (k : Descriptor)
 
 -- ---- one after the other
 
--- The group's descriptors have its id, no copy stands on a disk that leaves, and the members that aren't missing by the one are so by the one before.
-module _ (N : Descriptor → Type 0) (E : List ℕ) (a b c : State) (from : (b.core.descriptor ≡ a.core.descriptor) ⊎ N b.core.descriptor) (ids : (k : Descriptor) → N k → k.id ≡ a.core.status.group.id)
+-- The group's descriptors have its id, no copy stands on a disk that leaves, and the members that aren't missing by the one are so by the one before. The premise of the second holds
+-- where the disks held what was committed before the first.
+module _ (Q : Type 0) (N : Descriptor → Type 0) (E : List ℕ) (a b c : State) (from : (b.core.descriptor ≡ a.core.descriptor) ⊎ N b.core.descriptor) (ids : (k : Descriptor) → N k → k.id ≡ a.core.status.group.id)
     (apart : (k : Descriptor) → (k ≡ a.core.descriptor) ⊎ N k → (row : LvRow) (lp : ℕ) (p : Pp) → IsOneOf k.lvs row → IsOneOf (copies_of row lp) p → IsFalse (is_in E p.disk))
-    (before : (d : ℕ) → IsTrue (is_there b.core d) → IsTrue (is_there a.core d)) (still : IsHeld a.device a.core → IsHeld b.device b.core) (m n p q r : ℕ) (one : LeavesWithin m N [] E p q a b) (two : LeavesWithin n N [] E q r b c) where
+    (before : (d : ℕ) → IsTrue (is_there b.core d) → IsTrue (is_there a.core d)) (still : IsHeld a.device a.core → IsHeld b.device b.core) (m n p q r : ℕ) (give : IsHeld a.device a.core → Q) (one : LeavesWithin m N [] E p q a b) (two : LeavesIf Q n N E q r b c) where
   group_id : b.core.status.group.id ≡ a.core.status.group.id
   group_id = ⊎_elim (λ (same : b.core.status.group ≡ a.core.status.group). subst (λ (g : Descriptor). g.id ≡ a.core.status.group.id) (sym same) refl)
       (λ (its : (k : Descriptor) × N k × (b.core.status.group ≡ record k { lvs = [] })). subst (λ (g : Descriptor). g.id ≡ a.core.status.group.id) (sym its.2) (ids its.0 its.1)) one.status.group
@@ -155,8 +157,8 @@ module _ (N : Descriptor → Type 0) (E : List ℕ) (a b c : State) (from : (b.c
   lost d true mid is isnt = let first = one.status.lost d mid isnt in (first.0, rose_on (a.device.counts.faults d) (b.device.counts.faults d) (c.device.counts.faults d) first.1 (two.falls.faults d))
   lost d false mid is isnt = let second = two.status.lost d is mid in (before d second.0, rose_from (a.device.counts.faults d) (b.device.counts.faults d) (c.device.counts.faults d) (one.falls.faults d) second.1)
 
-  pub within_then : LeavesWithin (m + n) N [] E p r a c
-  within_then = record {
+  pub within_if : LeavesWithin (m + n) N [] E p r a c
+  within_if = record {
     writes = keeps_then (among [] (among E (is_there a.core))) (IsOfChange N [] E a c) a.device b.device c.device
         (wider (among [] (among E (is_there a.core))) (among [] (among E (is_there a.core))) (IsOfChange N [] E a b) (IsOfChange N [] E a c) a.device b.device (λ d is. is) change_first one.writes)
         (wider (among [] (among E (is_there b.core))) (among [] (among E (is_there a.core))) (IsOfChange N [] E b c) (IsOfChange N [] E a c) b.device c.device (λ d is. narrowed (is_in E d) (is_there b.core d) (is_there a.core d) (before d) is) change_second two.writes);
@@ -178,8 +180,8 @@ module _ (N : Descriptor → Type 0) (E : List ℕ) (a b c : State) (from : (b.c
       most = (let x = one.numbers.most in let y = two.numbers.most in omega (arith, x, y));
     };
     history = record { room = two.history.room ∙ one.history.room; volumes = (let x = one.history.volumes in let y = two.history.volumes in omega (arith, x, y)); later = λ moment is. two.history.later moment (one.history.later moment is) };
-    spans = λ run first held span. two.spans run first (λ past begins. still (held past begins)) (one.spans run first held span);
-    finds = λ held id k is. ⊎_elim (λ (was : MayBeFound b.device id k). one.finds held id k was) (λ (new : (id ≡ k.id) × N k). inr new) (two.finds (still held) id k is);
+    spans = λ run first held span. two.spans run first (λ past begins. still (held past begins)) (λ past begins. give (held past begins)) (one.spans run first held span);
+    finds = λ held id k is. ⊎_elim (λ (was : MayBeFound b.device id k). one.finds held id k was) (λ (new : (id ≡ k.id) × N k). inr new) (two.finds (give held) (still held) id k is);
     calm = λ past calm. two.calm past (one.calm past calm);
     behind = λ moment lt is. two.behind moment (subst (λ (n : ℕ). n < moment) (sym one.numbers.epoch) lt) (one.behind moment lt is);
     falls = none_falls_on one.falls two.falls;
@@ -189,3 +191,19 @@ module _ (N : Descriptor → Type 0) (E : List ℕ) (a b c : State) (from : (b.c
       narrowed : (e t u : Bool) → (IsTrue t → IsTrue u) → IsTrue (e || t) → IsTrue (e || u)
       narrowed true t u less is = refl
       narrowed false t u less is = less is
+
+-- ---- without a premise
+
+pub as_if : (m : ℕ) (N : Descriptor → Type 0) (E : List ℕ) (p q : ℕ) (a b : State) → LeavesWithin m N [] E p q a b → LeavesIf (Unit {0}) m N E p q a b
+as_if m N E p q a b is = record {
+  writes = is.writes;
+  status = is.status;
+  numbers = is.numbers;
+  history = is.history;
+  spans = λ run first held always. is.spans run first held;
+  finds = λ always. is.finds;
+  calm = is.calm;
+  behind = is.behind;
+  falls = is.falls;
+  spends = is.spends;
+}

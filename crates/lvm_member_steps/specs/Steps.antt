@@ -1,20 +1,26 @@
 -- One step of a group on its way to fewer members, and how it ends.
-use Rattle.std.specs.Prelude.{◌≡◌, ◌⊎◌, ℕ, List, Option, Result, Ok, Err, IsTrue, IsFalse}
+use Rattle.std.specs.Prelude.{◌≡◌, ◌⊎◌, ℕ, List, [], Option, Result, Ok, Err, IsTrue, IsFalse}
 use Rattle.lvm_num.specs.declared.descriptor.Descriptor.{Descriptor}
 use Rattle.lvm_num.specs.Votes.{votes_in, total_votes, is_enough_to_write}
 use Rattle.lvm_disk.specs.Counts.{NoneFalls}
 use Rattle.lvm_disk.specs.Device.{IsReady}
+use Rattle.lvm_vol.specs.Facts.{Fact}
+use Rattle.lvm_kept.specs.Moments.{Moment, StaysCalm}
+use Rattle.lvm_commit.specs.passed.Names.{RunBegins, SpanGoesOn}
+use Rattle.lvm_commit.specs.Settling.{SpendsNumbers}
 use Rattle.lvm_write.specs.Parts.{Spends}
+use Rattle.lvm_write.specs.Written.{KeepsShelf}
 use Rattle.lvm_session.specs.declared.open.Power.TheVariants as power
-use Rattle.lvm_session.specs.State.{State, is_there}
+use Rattle.lvm_session.specs.State.{State, is_there, moment_of}
 use Rattle.lvm_core.specs.declared.fault.CommitFault.{CommitFault}
 use Rattle.lvm_core.specs.declared.fault.CommitFault.TheVariants as fault
-use Rattle.lvm_core.specs.Committing.{HasGoneDark, IsLeftOut}
+use Rattle.lvm_core.specs.Committing.{HasGoneDark, IsLeftOut, StaysBehind}
+use Rattle.lvm_core.specs.Leaves.{KeepsHistory, IsHeldSince, FindsOnly}
 use Rattle.lvm_core.specs.Settled.{IsSettled}
 use Rattle.lvm_volume_plan.specs.PlannedVolume.{AreOfOneGroup}
 use Rattle.lvm_volumes.specs.Endings.{StillHeld, KeepsFresh}
 use Rattle.lvm_turnover.specs.declared.change.Leaving.{Leaving}
-use Rattle.lvm_turnover.specs.Changing.{HasGoneOffBy}
+use Rattle.lvm_turnover.specs.Changing.{HasGoneOffBy, among, IsOfChange, KeepsMarks}
 use Rattle.lvm_turnover.specs.Turning.{core_after}
 use Rattle.lvm_member_plan.specs.Descriptors.{IsReducedBy}
 
@@ -56,6 +62,21 @@ pub record BreaksOff (disks : List ℕ) (patience : ℕ) (old new : State) (why 
   pub left : ℕ
   pub come : HasComeTo disks patience left old mid
   pub breaks : BreaksFrom left mid new why
+
+-- ---- what is left under a premise
+
+-- What a change leaves without disks that join, as of LeavesWithin; a span goes on with it and nothing else is found where this premise holds as well.
+pub record LeavesIf (Q : Type 0) (most : ℕ) (N : Descriptor → Type 0) (erases : List ℕ) (before after : ℕ) (old new : State) : Type 0 where
+  pub writes : KeepsShelf (among [] (among erases (is_there old.core))) (IsOfChange N [] erases old new) old.device new.device
+  pub status : KeepsMarks N [] erases old new
+  pub numbers : SpendsNumbers most old.core.status new.core.status
+  pub history : KeepsHistory old.core.history new.core.history
+  pub spans : (run : ℕ) (first : Moment) → IsHeldSince run first old → ((past : List Fact) → RunBegins run past first → Q) → SpanGoesOn run first (moment_of old) (moment_of new)
+  pub finds : Q → FindsOnly N old new
+  pub calm : StaysCalm (moment_of old) (moment_of new)
+  pub behind : StaysBehind old new
+  pub falls : NoneFalls old.device.counts new.device.counts
+  pub spends : Spends before after old.device new.device
 
 -- ---- how a step ends
 

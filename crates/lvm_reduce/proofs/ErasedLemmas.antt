@@ -76,7 +76,7 @@ module _ (old : Contents) (shown : ℕ → Option (Stamped Descriptor)) (group :
       subst (λ (y : Descriptor). CanRead y (members_in old (rest b) i y)) (sym f.is) (subst (λ (v : Disks). CanRead k v) (members_same b i k) reads.reads.enough) in
       subst (λ (y : Descriptor). Finds old (rest b) i y) f.is (finds_from old (rest b) i f.newest (sym (among_same b i) ∙ f.found) enough)
 
-  found_before : (i : ℕ) (k : Descriptor) → IsFound new i k → IsFound old i k
+  pub found_before : (i : ℕ) (k : Descriptor) → IsFound new i k → IsFound old i k
   found_before i k is = (rest is.0, finds_before is.0 i k is.1)
 
   -- of what is found the disk is no member

@@ -23,8 +23,7 @@ use Rattle.lvm_core.specs.Committing.{HasGoneDark, IsLeftOut, with_one_out}
 use Rattle.lvm_core.specs.Held.{IsHeld}
 use Rattle.lvm_core.specs.Leaves.{NoDescriptor}
 use Rattle.lvm_core.specs.Zeros.{IsAsBefore}
-use Rattle.lvm_turnover.specs.Changing.{LeavesWithin}
-use Rattle.lvm_volumes.specs.Endings.{StillHeld}
+use Rattle.lvm_member_steps.specs.Steps.{LeavesIf}
 use Rattle.lvm_volumes.specs.Stages.{with_entry}
 
 -- the session once it has entered that the disk is a raw one
@@ -63,10 +62,11 @@ pub record ShowsOlder (image : Image) (id disk older : ℕ) : Type 0 where
   pub shows : IsTrue (passes (is_of id) ((contents_of image).descriptor disk))
   pub older_is : older ≡ slot_for descriptor_of kind.Descriptor (image.sector disk)
 
--- so it is where the media is told and the disks hold what the session says
+-- so it is, where the media is told
 abbrev pub IsErasable : ℕ → ℕ → State → Type 0
-IsErasable disk older s = IsHeld s.device s.core → IfSome s.device.media (λ media. ShowsOlder (image_of s.device.sizes media) s.core.descriptor.id disk older)
+IsErasable disk older s = IfSome s.device.media (λ media. ShowsOlder (image_of s.device.sizes media) s.core.descriptor.id disk older)
 
--- Then zeros alone are written, to that disk, and what stood goes on to stand.
-abbrev pub EraseKeeps : ℕ → ℕ → ℕ → ℕ → State → State → Type 0
-EraseKeeps disk older before after old new = IsErasable disk older old → LeavesWithin 0 NoDescriptor [] (disk ∷ []) before after old new × (IsHeld old.device old.core → IsHeld new.device new.core)
+-- Zeros alone are written, to that disk; where it shows a descriptor of the group what stood goes on to stand.
+pub record EraseKeeps (disk older before after : ℕ) (old new : State) : Type 0 where
+  pub leaves : LeavesIf (IsErasable disk older old) 0 NoDescriptor (disk ∷ []) before after old new
+  pub held : IsErasable disk older old → IsHeld old.device old.core → IsHeld new.device new.core
