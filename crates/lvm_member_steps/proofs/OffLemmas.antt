@@ -8,15 +8,15 @@ use Rattle.lvm_session.specs.declared.open.Power.TheVariants as power
 use Rattle.lvm_session.specs.State.{State, is_there}
 use Rattle.lvm_turnover.specs.Changing.{among, IsOfChange, LeavesWithin}
 
-pub off_leaves : (m : ℕ) (N : Descriptor → Type 0) (E : List ℕ) (p : ℕ) (a b : State) → b ≡ record { device = a.device; core = record a.core { power = power.Off } } → LeavesWithin m N [] E p p a b
-off_leaves m N E p a b is = subst (LeavesWithin m N [] E p p a) (sym is) off
-  where
-    abbrev gone : State
-    gone = record { device = a.device; core = record a.core { power = power.Off } }
+abbrev off : State → State
+off s = record { device = s.device; core = record s.core { power = power.Off } }
 
-    off : LeavesWithin m N [] E p p a gone
-    off = record {
-      writes = keeps_here (among [] (among E (is_there a.core))) (IsOfChange N [] E a gone) a.device;
+pub off_leaves : (m : ℕ) (N : Descriptor → Type 0) (E : List ℕ) (p : ℕ) (a b : State) → b ≡ off a → LeavesWithin m N [] E p p a b
+off_leaves m N E p a b is = subst (LeavesWithin m N [] E p p a) (sym is) here
+  where
+    here : LeavesWithin m N [] E p p a (off a)
+    here = record {
+      writes = keeps_here (among [] (among E (is_there a.core))) (IsOfChange N [] E a (off a)) a.device;
       status = record {
         group = inl refl;
         stale = λ pp apart stale. stale;

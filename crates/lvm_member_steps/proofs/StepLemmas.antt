@@ -1,12 +1,15 @@
 -- When a step may be made, and how it ends.
-use Rattle.std.proofs.Common.{◌≡◌, ◌⊎◌, inl, inr, ⊎_elim, ℕ, Bool, true, false, List, refl, sym, ◌∙◌, ap, subst}
+use Rattle.std.proofs.Common.{◌≡◌, ◌⊎◌, inl, inr, ⊎_elim, ℕ, Bool, true, false, ◌&&◌, not, List, [], refl, sym, ◌∙◌, ap, subst}
 use Rattle.std.specs.Prelude.{Option, Result, Ok, Err, IsTrue}
+use Rattle.std.proofs.lemmas.Bool.{false≢true}
 use Rattle.lvm_num.specs.declared.descriptor.PvRow.{PvRow}
 use Rattle.lvm_num.specs.declared.descriptor.Descriptor.{Descriptor}
 use Rattle.lvm_num.specs.declared.status.Status.{Status}
 use Rattle.lvm_num.specs.Disks.{Disks}
 use Rattle.lvm_num.specs.Descriptor.{IsValid, is_member}
 use Rattle.lvm_num.specs.Votes.{CanWrite, votes_in, total_votes, is_enough_to_write}
+use Rattle.lvm_num.specs.Status.{calls_missing}
+use Rattle.lvm_disk.specs.Device.{IsReady}
 use Rattle.lvm_disk.proofs.CountingLemmas.{none_falls_at_once}
 use Rattle.lvm_status.specs.Update.{members_there}
 use Rattle.lvm_write.proofs.PartsLemmas.Transfers.{spends_none}
@@ -18,6 +21,7 @@ use Rattle.lvm_core.specs.Committing.{is_in}
 use Rattle.lvm_core.specs.Settled.{IsSettled}
 use Rattle.lvm_core.specs.Sound.{IsSoundAtRest}
 use Rattle.lvm_change_laws.specs.Rule.{MayChange, staying}
+use Rattle.lvm_change_laws.proofs.StayingLemmas.{staying_member}
 use Rattle.lvm_turnover.specs.declared.change.Leaving.{Leaving}
 use Rattle.lvm_turnover.specs.Changing.{EndsFrom, IsNext, LeavesWithin, with_descriptor}
 use Rattle.lvm_turnover.specs.Turning.{disks_leaving, state_after}
@@ -58,22 +62,61 @@ there_by core there d s settled is group committed = is ∙ (λ t. members_there
 
 -- ---- how it ends
 
-come_here : (disks : List ℕ) (p : ℕ) (s : State) → HasComeTo disks p p s s
-come_here disks p s = record { is = refl; descriptor = inl refl; cuts = refl; falls = none_falls_at_once s.device.counts; spends = spends_none p s.device }
+come_here : (disks : List ℕ) (p : ℕ) (s : State) → IsReady s.device → HasComeTo disks p p s s
+come_here disks p s ready = record {
+  is = refl;
+  descriptor = inl refl;
+  entered = [];
+  among = λ x is. absurd (false≢true is);
+  history = refl;
+  before = λ d is. is;
+  ready = ready;
+  cuts = refl;
+  falls = none_falls_at_once s.device.counts;
+  spends = spends_none p s.device;
+}
 
-module _ (leaving : Option Leaving) (next : Descriptor) (p q : ℕ) (old new : State) where
+module _ (leaving : Option Leaving) (next : Descriptor) (p q : ℕ) (old new : State) (ready : IsReady old.device) (step : IsStep (disks_leaving leaving) old.core.descriptor next) where
   abbrev over : State
   over = state_after leaving old
 
   come_over : (disks : List ℕ) → HasComeTo disks p p old over
-  come_over disks = record { is = refl; descriptor = inl refl; cuts = refl; falls = none_falls_at_once old.device.counts; spends = spends_none p old.device }
+  come_over disks = record {
+    is = refl;
+    descriptor = inl refl;
+    entered = [];
+    among = λ x is. absurd (false≢true is);
+    history = refl;
+    before = λ d is. is;
+    ready = ready;
+    cuts = refl;
+    falls = none_falls_at_once old.device.counts;
+    spends = spends_none p old.device;
+  }
 
   come_next : (disks : List ℕ) → IsReducedBy disks old.core.descriptor next → HasComeTo disks p p old (with_descriptor next over)
-  come_next disks its = record { is = refl; descriptor = inr its; cuts = refl; falls = none_falls_at_once old.device.counts; spends = spends_none p old.device }
+  come_next disks its = record {
+    is = refl;
+    descriptor = inr its;
+    entered = [];
+    among = λ x is. absurd (false≢true is);
+    history = refl;
+    before = λ d is. fewer_by (is_member old.core.descriptor d) (is_in (disks_leaving leaving) d) (not (calls_missing old.core.status.wanted d))
+        (ap (λ (b : Bool). b && not (calls_missing old.core.status.wanted d)) (sym (ap (λ (g : Descriptor). is_member g d) step.is ∙ staying_member (is_in (disks_leaving leaving)) d old.core.descriptor.pvs)) ∙ is);
+    ready = ready;
+    cuts = refl;
+    falls = none_falls_at_once old.device.counts;
+    spends = spends_none p old.device;
+  }
+    where
+      fewer_by : (m g n : Bool) → (m && not g) && n ≡ true → m && n ≡ true
+      fewer_by true false n is = is
+      fewer_by true true n is = absurd (false≢true is)
+      fewer_by false g n is = absurd (false≢true is)
 
-  pub step_ends : (answer : Result (Unit {0}) CommitFault) → IsStep (disks_leaving leaving) old.core.descriptor next → MarksLeft next old.core.status new.core.status → LeavesWithin 3 (IsNext next) [] (disks_leaving leaving) p q old new → IsSoundAtRest new
+  pub step_ends : (answer : Result (Unit {0}) CommitFault) → MarksLeft next old.core.status new.core.status → LeavesWithin 3 (IsNext next) [] (disks_leaving leaving) p q old new → IsSoundAtRest new
       → EndsFrom next p old over new answer → StepEnds leaving next p old new answer
-  step_ends (Ok done) step left leaves sound ends = record {
+  step_ends (Ok done) left leaves sound ends = record {
     settled = ends.settled;
     group = record { valid = sound.fitting.valid; status = sound.fitting.group };
     is = ends.is;
@@ -83,22 +126,22 @@ module _ (leaving : Option Leaving) (next : Descriptor) (p q : ℕ) (old new : S
     still = step_still next leaving p q old new step left leaves ends;
     fresh = step_fresh next leaving p q old new step left leaves ends;
   }
-  step_ends (Err fault.Dark) step left leaves sound ends disks its = ⊎_elim
-      (λ dark. record { mid = old; left = p; come = come_here disks p old; breaks = dark })
+  step_ends (Err fault.Dark) left leaves sound ends disks its = ⊎_elim
+      (λ dark. record { mid = old; left = p; come = come_here disks p old ready; breaks = dark })
       (λ dark. record { mid = with_descriptor next over; left = p; come = come_next disks its; breaks = dark })
       ends
-  step_ends (Err fault.Stuck) step left leaves sound ends disks its = ⊎_elim
-      (λ out. record { mid = old; left = p; come = come_here disks p old; breaks = out })
+  step_ends (Err fault.Stuck) left leaves sound ends disks its = ⊎_elim
+      (λ out. record { mid = old; left = p; come = come_here disks p old ready; breaks = out })
       (λ out. record { mid = with_descriptor next over; left = p; come = come_next disks its; breaks = out })
       ends
-  step_ends (Err (fault.WentOff have total)) step left leaves sound ends disks its = by ends
+  step_ends (Err (fault.WentOff have total)) left leaves sound ends disks its = by ends
     where
       by : EndsFrom next p old over new (Err (fault.WentOff have total)) → BreaksOff disks p old new (fault.WentOff have total)
-      by (inl it) = record { mid = old; left = p; come = come_here disks p old; breaks = inl (old.core.descriptor, old.core.descriptor, it) }
-      by (inr (inl it)) = record { mid = old; left = p; come = come_here disks p old; breaks = inl (next, old.core.descriptor, it.0) }
+      by (inl it) = record { mid = old; left = p; come = come_here disks p old ready; breaks = inl (old.core.descriptor, old.core.descriptor, it) }
+      by (inr (inl it)) = record { mid = old; left = p; come = come_here disks p old ready; breaks = inl (next, old.core.descriptor, it.0) }
       by (inr (inr it)) = record { mid = over; left = p; come = come_over disks; breaks = inl (next, next, it) }
-  step_ends (Err (fault.DiskFailed disk)) step left leaves sound ends disks its = absurd ends
+  step_ends (Err (fault.DiskFailed disk)) left leaves sound ends disks its = absurd ends
 
   -- nothing was written
   pub at_once : (have total : ℕ) → WentOffAtOnce next have total old new → StepEnds leaving next p old new (Err (fault.WentOff have total))
-  at_once have total it disks its = record { mid = old; left = p; come = come_here disks p old; breaks = inr (next, it) }
+  at_once have total it disks its = record { mid = old; left = p; come = come_here disks p old ready; breaks = inr (next, its, it) }

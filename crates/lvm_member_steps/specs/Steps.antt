@@ -1,10 +1,12 @@
 -- One step of a group on its way to fewer members, and how it ends.
-use Rattle.std.specs.Prelude.{◌≡◌, ◌⊎◌, ℕ, List, [], Option, Result, Ok, Err, IsTrue, IsFalse}
+use Rattle.std.specs.Prelude.{◌≡◌, ◌⊎◌, ℕ, List, [], ◌∷◌, Option, Result, Ok, Err, IsTrue, IsFalse}
 use Rattle.lvm_num.specs.declared.descriptor.Descriptor.{Descriptor}
 use Rattle.lvm_num.specs.Votes.{votes_in, total_votes, is_enough_to_write}
 use Rattle.lvm_disk.specs.Counts.{NoneFalls}
 use Rattle.lvm_disk.specs.Device.{IsReady}
-use Rattle.lvm_vol.specs.Facts.{Fact}
+use Rattle.lvm_vol.specs.declared.entry.Vol.TheVariants.{Disk}
+use Rattle.lvm_vol.specs.Facts.{Fact, Removed}
+use Rattle.lvm_vol.specs.Log.{Log, with_fact}
 use Rattle.lvm_kept.specs.Moments.{Moment, StaysCalm}
 use Rattle.lvm_commit.specs.passed.Names.{RunBegins, SpanGoesOn}
 use Rattle.lvm_commit.specs.Settling.{SpendsNumbers}
@@ -14,7 +16,7 @@ use Rattle.lvm_session.specs.declared.open.Power.TheVariants as power
 use Rattle.lvm_session.specs.State.{State, is_there, moment_of}
 use Rattle.lvm_core.specs.declared.fault.CommitFault.{CommitFault}
 use Rattle.lvm_core.specs.declared.fault.CommitFault.TheVariants as fault
-use Rattle.lvm_core.specs.Committing.{HasGoneDark, IsLeftOut, StaysBehind}
+use Rattle.lvm_core.specs.Committing.{HasGoneDark, IsLeftOut, StaysBehind, is_in}
 use Rattle.lvm_core.specs.Leaves.{KeepsHistory, IsHeldSince, FindsOnly}
 use Rattle.lvm_core.specs.Settled.{IsSettled}
 use Rattle.lvm_volume_plan.specs.PlannedVolume.{AreOfOneGroup}
@@ -33,8 +35,13 @@ pub record WentOffAtOnce (next : Descriptor) (have total : ℕ) (old new : State
 
 -- ---- as far as it went
 
--- The session came so far on the way to a group without these members, with the patience before and then.
-pub record HasComeTo (disks : List ℕ) (before left : ℕ) (old mid : State) : Type 0 where
+-- the history with an entry for each of these disks, that it is a raw one
+abbrev pub with_removed : List ℕ → Log → Log
+with_removed [] log = log
+with_removed (disk ∷ disks) log = with_removed disks (with_fact log (Removed (Disk disk)))
+
+-- The session came so far on the way to a group without these members, with the patience before and then. It is at rest, and has entered that some of their disks are raw ones.
+pub record HasComeTo (disks : List ℕ) (patience left : ℕ) (old mid : State) : Type 0 where
   pub is : mid.core ≡ record old.core {
     descriptor = mid.core.descriptor;
     status = mid.core.status;
@@ -44,24 +51,30 @@ pub record HasComeTo (disks : List ℕ) (before left : ℕ) (old mid : State) : 
     history = mid.core.history;
   }
   pub descriptor : (mid.core.descriptor ≡ old.core.descriptor) ⊎ IsReducedBy disks old.core.descriptor mid.core.descriptor
+  pub entered : List ℕ
+  pub among : (x : ℕ) → IsTrue (is_in entered x) → IsTrue (is_in disks x) × IsTrue (is_there old.core x)
+  pub history : mid.core.history ≡ with_removed entered old.core.history
+  -- nobody is there who wasn't
+  pub before : (d : ℕ) → IsTrue (is_there mid.core d) → IsTrue (is_there old.core d)
+  pub ready : IsReady mid.device
   pub cuts : mid.device.counts.cuts ≡ old.device.counts.cuts
   pub falls : NoneFalls old.device.counts mid.device.counts
-  pub spends : Spends before left old.device mid.device
+  pub spends : Spends patience left old.device mid.device
 
--- From there it broke off by this fault: too few members were reached, of which one failed, or too few were there for the next descriptor; the power was cut; or a transfer wasn't
--- heard of.
-abbrev pub BreaksFrom : ℕ → State → State → CommitFault → Type 0
-BreaksFrom left mid new (fault.WentOff have total) =
-    ((by : Descriptor) × (has : Descriptor) × HasGoneOffBy by has have total mid new) ⊎ ((next : Descriptor) × WentOffAtOnce next have total mid new)
-BreaksFrom left mid new fault.Dark = HasGoneDark mid new
-BreaksFrom left mid new fault.Stuck = IsLeftOut left mid new
-BreaksFrom left mid new (fault.DiskFailed disk) = ⊥
+-- From there it broke off by this fault: too few members were reached, of which one failed, or too few were there for the next descriptor on the way; the power was cut; or a
+-- transfer wasn't heard of.
+abbrev pub BreaksFrom : List ℕ → ℕ → State → State → State → CommitFault → Type 0
+BreaksFrom disks left old mid new (fault.WentOff have total) =
+    ((by : Descriptor) × (has : Descriptor) × HasGoneOffBy by has have total mid new) ⊎ ((next : Descriptor) × IsReducedBy disks old.core.descriptor next × WentOffAtOnce next have total mid new)
+BreaksFrom disks left old mid new fault.Dark = HasGoneDark mid new
+BreaksFrom disks left old mid new fault.Stuck = IsLeftOut left mid new
+BreaksFrom disks left old mid new (fault.DiskFailed disk) = ⊥
 
 pub record BreaksOff (disks : List ℕ) (patience : ℕ) (old new : State) (why : CommitFault) : Type 0 where
   pub mid : State
   pub left : ℕ
   pub come : HasComeTo disks patience left old mid
-  pub breaks : BreaksFrom left mid new why
+  pub breaks : BreaksFrom disks left old mid new why
 
 -- ---- what is left under a premise
 

@@ -1,5 +1,6 @@
 //! One turn of a group on its way, where the votes are enough for it.
 ghost use Rattle.std.specs.Prelude.{◌≡◌};
+ghost use Rattle.lvm_disk.specs.Device.{IsReady};
 ghost use Rattle.lvm_session.specs.declared.open.Power.TheVariants as power;
 ghost use Rattle.lvm_volume_plan.specs.PlannedVolume.{AreOfOneGroup};
 ghost use Rattle.lvm_core.specs.State.{state_of};
@@ -25,6 +26,7 @@ pub fn step<S: Shelf>(
 ) -> (CommandDriver<S>, Result<(), CommitFault>)
     requires settled { IsSettled driver.1 }
     requires group { AreOfOneGroup driver.1 }
+    requires ready { IsReady (S.device driver.0) }
     requires numbers { HasSpareNumbers driver.1 }
     requires prepared { IsPrepared change }
     requires step { IsStep (disks_leaving change.leaving) driver.1.descriptor change.next }

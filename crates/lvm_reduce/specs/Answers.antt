@@ -3,9 +3,7 @@ use Rattle.std.specs.Prelude.{◌≡◌, ◌⊎◌, ℕ, ◌==◌, Bool, true, f
 use Rattle.lvm_disk.specs.Counts.{Rose}
 use Rattle.lvm_disk.specs.Device.{IsReady}
 use Rattle.lvm_mwc.specs.declared.notes.DiskNotes.{DiskNotes}
-use Rattle.lvm_vol.specs.declared.entry.Vol.TheVariants.{Disk}
-use Rattle.lvm_vol.specs.Facts.{Removed}
-use Rattle.lvm_vol.specs.Log.{Log, with_fact}
+use Rattle.lvm_erase.specs.Erasing.{IsErased}
 use Rattle.lvm_status.specs.Rerowed.{IsRerowed}
 use Rattle.lvm_session.specs.State.{State, is_there}
 use Rattle.lvm_core.specs.declared.fault.CommitFault.{CommitFault}
@@ -16,7 +14,7 @@ use Rattle.lvm_member_plan.specs.declared.fault.ReduceFault.{ReduceFault}
 use Rattle.lvm_member_plan.specs.declared.fault.ReduceFault.TheVariants as fault
 use Rattle.lvm_member_plan.specs.Descriptors.{reduced}
 use Rattle.lvm_member_plan.specs.Refusals.{MayReduce, RefusesReduce}
-use Rattle.lvm_reduce.specs.Steps.{BreaksOff}
+use Rattle.lvm_member_steps.specs.Steps.{BreaksOff, with_removed}
 
 -- ---- faults
 
@@ -34,15 +32,11 @@ IsFaultOf (commit.DiskFailed disk) why = ⊥
 
 -- ---- where it is done
 
--- the history with an entry for each of these disks, that it is a raw one
-abbrev pub with_removed : List ℕ → Log → Log
-with_removed [] log = log
-with_removed (disk ∷ disks) log = with_removed disks (with_fact log (Removed (Disk disk)))
-
--- Entered are disks that left and were there; of the others that were there each had a transfer that failed.
+-- Entered are disks that left and were there, and each of them shows no descriptor, or a transfer of it failed; of the others that were there each had a transfer that failed.
 pub record HasEntered (disks entered : List ℕ) (old new : State) : Type 0 where
   pub history : new.core.history ≡ with_removed entered old.core.history
   pub among : (x : ℕ) → IsTrue (is_in entered x) → IsTrue (is_in disks x) × IsTrue (is_there old.core x)
+  pub erased : (x : ℕ) → IsTrue (is_in entered x) → IsErased x new.device ⊎ Rose (old.device.counts.faults x) (new.device.counts.faults x)
   pub others : (x : ℕ) → IsTrue (is_in disks x) → IsTrue (is_there old.core x) → IsFalse (is_in entered x) → Rose (old.device.counts.faults x) (new.device.counts.faults x)
 
 -- The members have left: the session is one of the group without them.

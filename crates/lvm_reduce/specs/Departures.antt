@@ -21,18 +21,14 @@ use Rattle.lvm_turnover.specs.declared.change.Leaving.{Leaving}
 use Rattle.lvm_turnover.specs.Turning.{IsPrepared, cache_after}
 use Rattle.lvm_reduce.specs.declared.departure.Departure.{Departure}
 use Rattle.lvm_reduce.specs.declared.departure.Mark.{Mark}
-use Rattle.lvm_member_plan.specs.Descriptors.{reduced, is_used}
-use Rattle.lvm_reduce.specs.Steps.{IsStep, BreaksOff, HasStepped, StepEnds}
+use Rattle.lvm_member_plan.specs.Descriptors.{reduced}
+use Rattle.lvm_member_plan.specs.Steps.{IsStep}
+use Rattle.lvm_member_steps.specs.Steps.{BreaksOff, HasStepped, StepEnds}
+use Rattle.lvm_erase.specs.Erasing.{slot_number}
+use Rattle.lvm_write.specs.Written.{HasRoom}
+use Rattle.lvm_reduce.specs.Erasing.{IsErasable}
 
 -- ---- its turns
-
--- The member may leave: another one stays, and no volume has a partition on its disk.
-pub record MayDepart (d : Descriptor) (disk : ℕ) : Type 0 where
-  pub member : IsTrue (is_member d disk)
-  pub other : ℕ
-  pub stays : IsTrue (is_member d other)
-  pub apart : other ≡ disk → ⊥
-  pub unused : is_used d disk ≡ false
 
 -- a turn by which no member leaves
 pub record IsTurnFrom (d : Descriptor) (c : Change) : Type 0 where
@@ -63,6 +59,31 @@ pub record IsDeparture (origin : Status) (d : Descriptor) (p : Departure) : Type
   pub after : IfSome p.after (IsTurnFrom p.out.next)
   pub last : at_last p ≡ reduced (p.disk ∷ []) d
 
+-- it leaves so, by whatever status the session began
+abbrev pub CanDepart : Descriptor → Departure → Type 0
+CanDepart d p = (origin : Status) × IsDeparture origin d p
+
+-- members leave so one after the other, and their disks in this order
+abbrev pub AreDepartures : Status → Descriptor → List Departure → Type 0
+AreDepartures origin d [] = Unit {0}
+AreDepartures origin d (p ∷ ps) = IsDeparture origin d p × AreDepartures origin (reduced (p.disk ∷ []) d) ps
+
+abbrev pub CanDepartAll : Descriptor → List Departure → Type 0
+CanDepartAll d ps = (origin : Status) × AreDepartures origin d ps
+
+abbrev pub disks_of : List Departure → List ℕ
+disks_of ps = map (λ (p : Departure). p.disk) ps
+
+-- the change turns to the descriptor, and no member leaves by it, where there is one
+abbrev pub IsChangeOf : Option Descriptor → Option Change → Type 0
+IsChangeOf None None = Unit {0}
+IsChangeOf (Some k) (Some c) = IsPrepared c × (c.leaving ≡ None) × (c.next ≡ k)
+IsChangeOf _ _ = ⊥
+
+-- the session has sequence numbers left for so many members that leave
+abbrev pub HasNumbersFor : ℕ → Core → Type 0
+HasNumbersFor members core = core.status.stamp.seq + 264 + 9 * members < 2 ^ 32
+
 -- ---- the disk before it
 
 -- The member isn't missing, and the count of its failed transfers tells of the next one; this slot will hold the older descriptor.
@@ -75,6 +96,12 @@ pub record IsMarked (disk : ℕ) (s : State) (m : Mark) : Type 0 where
 -- it is missing, or its count stands at the last value
 abbrev pub IsUnmarked : ℕ → State → Type 0
 IsUnmarked disk s = IsTrue (is_there s.core disk) → 2 ^ 64 - 1 ≤ s.device.counts.faults disk
+
+-- It has left; where no transfer to its disk has failed since the mark, and this premise holds, the disk shows a descriptor of the group, of which this slot holds the older one.
+pub record HasLeft (Q : Type 0) (disk : ℕ) (s : State) (m : Mark) : Type 0 where
+  pub stranger : is_member s.core.descriptor disk ≡ false
+  pub room : HasRoom s.device disk
+  pub shows : Q → s.device.counts.faults disk ≡ m.faults → IsErasable disk (slot_number m.second_is_older) s
 
 -- ---- how it ends
 

@@ -1,12 +1,12 @@
 //! The turns by which one member leaves its group.
-ghost use Rattle.std.specs.Prelude.{◌≡◌, ◌⊎◌, [], ◌∷◌, length, true, false, IfOk};
+ghost use Rattle.std.specs.Prelude.{◌≡◌, [], ◌∷◌, IfOk, IfSome};
 ghost use Rattle.lvm_num.specs.Descriptor.{IsValid};
 ghost use Rattle.lvm_status.specs.Rerowed.{IsRerowed};
-ghost use Rattle.lvm_turnover.specs.Turning.{IsPrepared};
-ghost use Rattle.lvm_member_plan.specs.Descriptors.{reduced, is_first};
-ghost use Rattle.lvm_reduce.specs.Departures.{MayDepart, IsDeparture, LeavesBy};
+ghost use Rattle.lvm_member_plan.specs.Descriptors.{reduced};
+ghost use Rattle.lvm_member_plan.specs.Steps.{MayDepart};
+ghost use Rattle.lvm_reduce.specs.Departures.{IsDeparture, IsChangeOf};
 
-use crate::descriptors::{is_first, with_even, without_members};
+use lvm_member_plan::{StepsOut, steps_out, without_members};
 use lvm_num::{Descriptor, Memory};
 use lvm_session::Session;
 use lvm_turnover::{Change, Leaving};
@@ -32,7 +32,7 @@ pub struct Mark {
     pub second_is_older: bool,
 }
 
-/// The turns by which this member leaves the group. From three members the two that stay are even first; so are two of which the first leaves.
+/// The turns by which this member leaves the group.
 pub(crate) fn departure(
     alloc: Global,
     session: &Session,
@@ -44,106 +44,35 @@ pub(crate) fn departure(
     ensures planned { IfOk result (IsDeparture session.now.origin.table d.now) }
     ensures disk { IfOk result (λ p. p.disk ≡ disk) }
 {
-    if d.pvs.len() == 3 {
-        from_three(alloc, session, d, disk)
-    } else if d.pvs.len() == 2 && !d.even && is_first(d, disk) {
-        first_of_two(alloc, session, d, disk)
-    } else {
-        at_once(alloc, session, d, disk)
+    let StepsOut { before, out, after } = steps_out(alloc, d, disk)?;
+    let leaving = leaving_of(alloc, session, d, disk)?;
+    let before = change_if(alloc, session, before)?;
+    let out = Change::among(alloc, &session.updater, out, Some(leaving))?;
+    let after = change_if(alloc, session, after)?;
+    Ok(Departure {
+        disk,
+        before,
+        out,
+        after,
+    })
+}
+
+// The change by which no member leaves, if there is one.
+fn change_if(
+    alloc: Global,
+    session: &Session,
+    next: Option<Descriptor>,
+) -> Result<Option<Change>, Memory>
+    requires valid { IfSome next IsValid }
+    ensures { IfOk result (IsChangeOf next) }
+{
+    match next {
+        Some(next) => {
+            let change = Change::among(alloc, &session.updater, next, None)?;
+            Ok(Some(change))
+        }
+        None => Ok(None),
     }
-}
-
-// From three members.
-fn from_three(
-    alloc: Global,
-    session: &Session,
-    d: &Descriptor,
-    disk: u16,
-) -> Result<Departure, Memory>
-    requires valid { IsValid d.now }
-    requires may { MayDepart d.now disk }
-    requires three { length d.now.pvs ≡ 3 }
-    ensures planned { IfOk result (IsDeparture session.now.origin.table d.now) }
-    ensures disk { IfOk result (λ p. p.disk ≡ disk) }
-{
-    let even = without_members(alloc, d, &[disk], true)?;
-    let leaving = leaving_of(alloc, session, d, disk)?;
-    let out = Change::among(alloc, &session.updater, even, Some(leaving))?;
-    let after = Change::among(
-        alloc,
-        &session.updater,
-        without_members(alloc, d, &[disk], false)?,
-        None,
-    )?;
-    Ok(Departure {
-        disk,
-        before: None,
-        out,
-        after: Some(after),
-    })
-}
-
-// The first of two members that aren't even.
-fn first_of_two(
-    alloc: Global,
-    session: &Session,
-    d: &Descriptor,
-    disk: u16,
-) -> Result<Departure, Memory>
-    requires valid { IsValid d.now }
-    requires may { MayDepart d.now disk }
-    requires two { length d.now.pvs ≡ 2 }
-    ensures planned { IfOk result (IsDeparture session.now.origin.table d.now) }
-    ensures disk { IfOk result (λ p. p.disk ≡ disk) }
-{
-    let before = Change::among(alloc, &session.updater, with_even(alloc, d, true)?, None)?;
-    let out = out_of(alloc, session, d, disk)?;
-    Ok(Departure {
-        disk,
-        before: Some(before),
-        out,
-        after: None,
-    })
-}
-
-// One that leaves by one turn.
-fn at_once(
-    alloc: Global,
-    session: &Session,
-    d: &Descriptor,
-    disk: u16,
-) -> Result<Departure, Memory>
-    requires valid { IsValid d.now }
-    requires may { MayDepart d.now disk }
-    requires three { length d.now.pvs ≡ 3 → ⊥ }
-    requires two { length d.now.pvs ≡ 2 → (d.now.even ≡ true) ⊎ (is_first d.now disk ≡ false) }
-    ensures planned { IfOk result (IsDeparture session.now.origin.table d.now) }
-    ensures disk { IfOk result (λ p. p.disk ≡ disk) }
-{
-    let out = out_of(alloc, session, d, disk)?;
-    Ok(Departure {
-        disk,
-        before: None,
-        out,
-        after: None,
-    })
-}
-
-// The turn by which it leaves, to the group that isn't even.
-fn out_of(
-    alloc: Global,
-    session: &Session,
-    d: &Descriptor,
-    disk: u16,
-) -> Result<Change, Memory>
-    requires valid { IsValid (reduced (disk ∷ []) d.now) }
-    ensures next { IfOk result (λ c. c.next ≡ reduced (disk ∷ []) d.now) }
-    ensures prepared { IfOk result IsPrepared }
-    ensures leaving { IfOk result (LeavesBy disk d.now session.now.origin.table) }
-{
-    let leaving = leaving_of(alloc, session, d, disk)?;
-    let gone = without_members(alloc, d, &[disk], false)?;
-    Change::among(alloc, &session.updater, gone, Some(leaving))
 }
 
 // What the session goes on with once it has left.

@@ -1,22 +1,22 @@
 //! One member leaves a group that is on.
-ghost use Rattle.std.specs.Prelude.{◌≡◌, ◌≤◌, ◌+◌, ◌*◌, ◌<◌, ◌^◌, [], ◌∷◌, IfSome, IfNone, IsTrue};
+ghost use Rattle.std.specs.Prelude.{◌≡◌, ◌≤◌, ◌<◌, ℕ, List, [], ◌∷◌, length, false, IfSome, IfNone};
 ghost use Rattle.lvm_num.specs.declared.status.Status.{Status};
+ghost use Rattle.lvm_num.specs.Descriptor.{is_member};
 ghost use Rattle.lvm_disk.specs.Device.{IsReady};
 ghost use Rattle.lvm_vol.specs.Log.{spare_entries};
-ghost use Rattle.lvm_session.specs.State.{is_there};
 ghost use Rattle.lvm_core.specs.State.{state_of};
-ghost use Rattle.lvm_core.specs.Settled.{IsSettled};
+ghost use Rattle.lvm_core.specs.Settled.{IsSettled, HasSpareNumbers};
 ghost use Rattle.lvm_volume_plan.specs.PlannedVolume.{AreOfOneGroup};
 ghost use Rattle.lvm_turnover.specs.Changing.{LeavesWithin};
 ghost use Rattle.lvm_member_plan.specs.Descriptors.{IsReducedBy};
-ghost use Rattle.lvm_reduce.specs.Departures.{IsDeparture, IsTurnFrom, IsMarked, IsUnmarked, MayTurnTwice, DepartEnds, TurnEnds, OutEnds};
+ghost use Rattle.lvm_reduce.specs.Departures.{CanDepart, IsDeparture, IsTurnFrom, IsMarked, IsUnmarked, HasNumbersFor, DepartEnds, TurnIfEnds};
 
 use crate::departure::{Departure, Mark};
 use crate::erasing::erase;
-use crate::turn::step;
 use lvm_core::below::Patience;
 use lvm_core::{CommandDriver, CommitFault};
 use lvm_disk::Shelf;
+use lvm_member_steps::step;
 use lvm_num::Kind;
 use lvm_status::members_there;
 use lvm_turnover::Change;
@@ -27,6 +27,14 @@ pub(crate) fn depart<S: Shelf>(
     departure: Departure,
     patience: &mut Patience,
 ) -> (CommandDriver<S>, Result<(), CommitFault>)
+    requires settled { IsSettled driver.1 }
+    requires group { AreOfOneGroup driver.1 }
+    requires ready { IsReady (S.device driver.0) }
+    requires numbers { HasNumbersFor 1 driver.1 }
+    requires spare { 1 ≤ spare_entries driver.1.history }
+    requires departs { CanDepart driver.1.descriptor departure }
+    ensures ends { (origin : Status) → IsDeparture origin driver.1.descriptor departure → DepartEnds origin departure.disk patience.old.left (state_of S.device driver) (state_of S.device result.0) result.1 }
+    ensures leaves { LeavesWithin 9 (IsReducedBy (departure.disk ∷ []) driver.1.descriptor) [] (departure.disk ∷ []) patience.old.left patience.new.left (state_of S.device driver) (state_of S.device result.0) }
 {
     let Departure {
         disk,
@@ -38,11 +46,33 @@ pub(crate) fn depart<S: Shelf>(
     if answer.is_err() {
         return (driver, answer);
     }
+    leave(driver, disk, out, after, patience)
+}
+
+// Takes it out of a group that is ready for it.
+fn leave<S: Shelf>(
+    driver: CommandDriver<S>,
+    disk: u16,
+    out: Change,
+    after: Option<Change>,
+    patience: &mut Patience,
+) -> (CommandDriver<S>, Result<(), CommitFault>) {
     let (driver, mark) = mark_of(driver, disk);
     let (driver, answer) = step(driver, out, patience);
     if answer.is_err() {
         return (driver, answer);
     }
+    close(driver, disk, mark, after, patience)
+}
+
+// Goes on once it has left: the two that stay are even no more, and its disk is erased.
+fn close<S: Shelf>(
+    driver: CommandDriver<S>,
+    disk: u16,
+    mark: Option<Mark>,
+    after: Option<Change>,
+    patience: &mut Patience,
+) -> (CommandDriver<S>, Result<(), CommitFault>) {
     let (driver, answer) = turn_if(driver, after, patience);
     if answer.is_err() {
         return (driver, answer);
@@ -50,12 +80,19 @@ pub(crate) fn depart<S: Shelf>(
     erase_if(driver, disk, mark, patience)
 }
 
-// Makes a turn, if there is one.
+// Makes a turn by which no member leaves, if there is one.
 fn turn_if<S: Shelf>(
     driver: CommandDriver<S>,
     change: Option<Change>,
     patience: &mut Patience,
 ) -> (CommandDriver<S>, Result<(), CommitFault>)
+    requires settled { IsSettled driver.1 }
+    requires group { AreOfOneGroup driver.1 }
+    requires ready { IsReady (S.device driver.0) }
+    requires numbers { HasSpareNumbers driver.1 }
+    requires turn { IfSome change (IsTurnFrom driver.1.descriptor) }
+    ensures ends { TurnIfEnds change patience.old.left (state_of S.device driver) (state_of S.device result.0) result.1 }
+    ensures leaves { (disks : List ℕ) → LeavesWithin 3 (IsReducedBy disks driver.1.descriptor) [] disks patience.old.left patience.new.left (state_of S.device driver) (state_of S.device result.0) }
 {
     match change {
         Some(change) => step(driver, change, patience),
@@ -97,6 +134,10 @@ fn erase_if<S: Shelf>(
     mark: Option<Mark>,
     patience: &mut Patience,
 ) -> (CommandDriver<S>, Result<(), CommitFault>)
+    requires settled { IsSettled driver.1 }
+    requires spare { 1 ≤ spare_entries driver.1.history }
+    requires room { disk < length (S.device driver.0).sizes }
+    requires stranger { is_member driver.1.descriptor disk ≡ false }
 {
     let Some(mark) = mark else {
         return (driver, Ok(()));

@@ -1,13 +1,23 @@
 //! Members leave a group that is on.
 
-use crate::check::check;
+ghost use Rattle.std.specs.Prelude.{◌≡◌, ◌≢◌, ◌≤◌, length, AllPairs, IfOk, IfErr};
+ghost use Rattle.lvm_core.specs.State.{state_of};
+ghost use Rattle.lvm_core.specs.Settled.{IsSettled};
+ghost use Rattle.lvm_volume_plan.specs.Faults.{TakesCommands};
+ghost use Rattle.lvm_volume_plan.specs.PlannedVolume.{AreOfOneGroup};
+ghost use Rattle.lvm_volumes.specs.Endings.{StillHeld, KeepsFresh};
+ghost use Rattle.lvm_turnover.specs.Changing.{ChangeLeaves};
+ghost use Rattle.lvm_member_plan.specs.Descriptors.{IsReducedBy};
+ghost use Rattle.lvm_member_plan.specs.Refusals.{MayReduce};
+ghost use Rattle.lvm_reduce.specs.Answers.{IfOn, IsFaultOf, IsOfRecords, ReduceGives};
+ghost use Rattle.lvm_reduce.specs.Departures.{AreDepartures, disks_of};
+
 use crate::departure::{Departure, departure};
-use crate::descriptors::without_members;
-use crate::fault::{ReduceFault, reduce_fault};
 use crate::leaving::depart;
-use lvm_core::CommandDriver;
 use lvm_core::below::Patience;
+use lvm_core::{CommandDriver, CommitFault};
 use lvm_disk::Shelf;
+use lvm_member_plan::{ReduceFault, check, without_members};
 use lvm_num::{Memory, clone_descriptor};
 use lvm_session::Session;
 use std::alloc::Global;
@@ -34,6 +44,15 @@ pub fn reducevg<S: Shelf>(
     disks: &[u16],
     patience: &mut Patience,
 ) -> Reduced<S>
+    requires settled { TakesCommands driver.1 → IsSettled driver.1 }
+    requires some { 1 ≤ length disks.now }
+    requires differ { AllPairs (λ a b. a ≢ b) disks.now }
+    ensures gives { ReduceGives disks.now patience.old.left (state_of S.device driver) (state_of S.device result.driver) result.answer }
+    ensures settled { TakesCommands driver.1 → IfOn result.answer (IsSettled result.driver.1) }
+    ensures held { IfOn result.answer (StillHeld (state_of S.device driver) (state_of S.device result.driver)) }
+    ensures fresh { IfOn result.answer (KeepsFresh (state_of S.device driver) (state_of S.device result.driver)) }
+    // whatever the answer
+    ensures leaves { ChangeLeaves (IsReducedBy disks.now driver.1.descriptor) [] disks.now patience.old.left patience.new.left (state_of S.device driver) (state_of S.device result.driver) }
 {
     match check(alloc, &driver, disks) {
         Ok(()) => leave_all(alloc, driver, disks, patience),
@@ -51,6 +70,17 @@ fn leave_all<S: Shelf>(
     disks: &[u16],
     patience: &mut Patience,
 ) -> Reduced<S>
+    requires group { AreOfOneGroup driver.1 }
+    requires may { MayReduce disks.now driver.1 }
+    requires settled { IsSettled driver.1 }
+    requires some { 1 ≤ length disks.now }
+    requires differ { AllPairs (λ a b. a ≢ b) disks.now }
+    ensures gives { ReduceGives disks.now patience.old.left (state_of S.device driver) (state_of S.device result.driver) result.answer }
+    ensures settled { IfOn result.answer (IsSettled result.driver.1) }
+    ensures held { IfOn result.answer (StillHeld (state_of S.device driver) (state_of S.device result.driver)) }
+    ensures fresh { IfOn result.answer (KeepsFresh (state_of S.device driver) (state_of S.device result.driver)) }
+    // whatever the answer
+    ensures leaves { ChangeLeaves (IsReducedBy disks.now driver.1.descriptor) [] disks.now patience.old.left patience.new.left (state_of S.device driver) (state_of S.device result.driver) }
 {
     let (shelf, session) = driver.into_parts();
     let planned = departures(alloc, &session, disks);
@@ -65,11 +95,9 @@ fn leave_all<S: Shelf>(
 }
 
 // The turns by which these members leave.
-fn departures(
-    alloc: Global,
-    session: &Session,
-    disks: &[u16],
-) -> Result<Vec<Departure>, Memory>
+fn departures(alloc: Global, session: &Session, disks: &[u16]) -> Result<Vec<Departure>, Memory>
+    ensures planned { IfOk result (AreDepartures session.now.origin.table session.now.descriptor) }
+    ensures disks { IfOk result (λ ps. disks_of ps ≡ disks.now) }
 {
     let mut planned = Vec::with_capacity(alloc, disks.len())?;
     let mut group = clone_descriptor(alloc, &session.descriptor)?;
@@ -85,8 +113,7 @@ fn depart_all<S: Shelf>(
     driver: CommandDriver<S>,
     departures: Vec<Departure>,
     patience: &mut Patience,
-) -> Reduced<S>
-{
+) -> Reduced<S> {
     let mut driver = driver;
     for departure in departures {
         let (left, answer) = depart(driver, departure, patience);
@@ -101,5 +128,18 @@ fn depart_all<S: Shelf>(
     Reduced {
         driver,
         answer: Ok(()),
+    }
+}
+
+// The command's fault for one of the writing of records.
+fn reduce_fault(fault: CommitFault) -> ReduceFault
+    requires { IsOfRecords fault }
+    ensures { IsFaultOf fault result }
+{
+    match fault {
+        CommitFault::Dark => ReduceFault::Dark,
+        CommitFault::WentOff { have, total } => ReduceFault::WentOff { have, total },
+        CommitFault::Stuck => ReduceFault::Stuck,
+        CommitFault::DiskFailed { .. } => unreachable!(),
     }
 }

@@ -29,7 +29,7 @@ returns-in-Some g c =
     let is = (λ t. state (g.S.Shelf.device (c.gone_off.ensures.shelf t)) (c.gone_off.ensures.core t)) in
     let few = c.in-Some.ensures.few in
     record {
-      ends = at_once c.args.change.leaving next p p old new c.in-Some.have c.in-Some.total (record { have_is = few.0 ∙ ap (votes_in next) there; total_is = few.1; few = few.2; is = is });
+      ends = at_once c.args.change.leaving next p p old new c.requires.ready c.requires.step c.in-Some.have c.in-Some.total (record { have_is = few.0 ∙ ap (votes_in next) there; total_is = few.1; few = few.2; is = is });
       shown = tt;
       leaves = off_leaves 3 (IsNext next) (disks_leaving c.args.change.leaving) p old new is;
     }
@@ -42,7 +42,7 @@ returns-in-None g c =
     let q : ℕ = c.turn_group.new.patience.left in
     let e = c.turn_group.ensures in
     record {
-      ends = step_ends c.args.change.leaving c.args.change.next p q old new c.turn_group.result.1 c.requires.step e.left e.leaves e.sound e.ends;
+      ends = step_ends c.args.change.leaving c.args.change.next p q old new c.requires.ready c.requires.step c.turn_group.result.1 e.left e.leaves e.sound e.ends;
       shown = e.shown;
       leaves = e.leaves;
     }
