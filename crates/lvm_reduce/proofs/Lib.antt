@@ -1,3 +1,0 @@
-pub mod ErasedLemmas
-pub mod ErasingLemmas
-pub mod RawLemmas
