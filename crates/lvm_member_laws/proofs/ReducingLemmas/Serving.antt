@@ -1,7 +1,8 @@
 -- A session that disks have left is sound with requests.
-use Rattle.std.proofs.Common.{◌≡◌, ◌⊎◌, inl, inr, ⊎_elim, ℕ, ◌==◌, ◌-◌, ◌≤◌, ◌^◌, Bool, true, false, ◌&&◌, not, List, [], ◌∷◌, ◌++◌, length, Result, Ok, Err, refl, sym, ap, subst, ◌∙◌, arith}
+use Rattle.std.proofs.Common.{◌≡◌, ◌⊎◌, inl, inr, ⊎_elim, ℕ, ◌==◌, ◌-◌, ◌≤◌, ◌^◌, Bool, true, false, ◌&&◌, not, List, [], ◌∷◌, ◌++◌, append_assoc, length, map, Result, Ok, Err, refl, sym, ap, subst, ◌∙◌, arith}
 use Rattle.std.specs.Prelude.{IsTrue, IsFalse, Contains}
 use Rattle.std.proofs.lemmas.Bool.{or_right}
+use Rattle.std.proofs.lemmas.List.{append-nil}
 use Rattle.lvm_num.specs.declared.descriptor.Descriptor.{Descriptor}
 use Rattle.lvm_num.specs.declared.descriptor.PvRow.{PvRow}
 use Rattle.lvm_num.specs.declared.descriptor.LvRow.{LvRow}
@@ -11,8 +12,11 @@ use Rattle.lvm_num.specs.Status.{calls_stale, calls_missing}
 use Rattle.lvm_num.proofs.Booleans.{second_with_first}
 use Rattle.lvm_disk.specs.Counts.{Rose}
 use Rattle.lvm_disk.proofs.CountingLemmas.{rose_after, rose_before}
+use Rattle.lvm_vol.specs.declared.entry.Vol.TheVariants.{Disk}
+use Rattle.lvm_vol.specs.Facts.{Fact, Removed}
 use Rattle.lvm_vol.specs.Log.{Log}
 use Rattle.lvm_vol.specs.Order.{Ordered}
+use Rattle.lvm_vol.proofs.FactsLemmas.Order.{ordered-push}
 use Rattle.lvm_kept.specs.Group.{IsOneOf}
 use Rattle.lvm_status.specs.Table.{has_row}
 use Rattle.lvm_status.specs.Update.{members_there}
@@ -41,6 +45,16 @@ use Rattle.lvm_tie_commands.specs.Serving.{MayServeWith}
 use Rattle.lvm_tie_commands.proofs.ServingLemmas.More.{refused}
 use Rattle.lvm_member_laws.specs.Reducing.{IsReduced, ReduceServes}
 use Rattle.lvm_member_laws.proofs.Rows.{contained_is, kept_contained, missing_has_row, not_leaving, stale_has_row, was_member}
+
+-- an order of facts goes on over such entries
+ordered_more : (run : ℕ) (facts : List Fact) (disks : List ℕ) → Ordered run [] facts → Ordered run [] (facts ++ map (λ (x : ℕ). Removed (Disk x)) disks)
+ordered_more run facts [] ordered = subst (Ordered run []) (sym (append-nil facts)) ordered
+ordered_more run facts (x ∷ disks) ordered =
+    subst (Ordered run []) (append_assoc facts (Removed (Disk x) ∷ []) (map (λ (y : ℕ). Removed (Disk y)) disks))
+    (ordered_more run (facts ++ Removed (Disk x) ∷ []) disks (ordered-push run [] facts (Removed (Disk x)) ordered tt))
+
+ordered_removed : (disks : List ℕ) (log : Log) → Ordered log.run [] log.facts → Ordered (with_removed disks log).run [] (with_removed disks log).facts
+ordered_removed disks log ordered = ordered_more log.run log.facts disks ordered
 
 module _ (disks : List ℕ) (before after : ℕ) (old new : State) (sound : IsSound old) (began : IsSettled old.core) (on : IsSettled new.core) (still : StillHeld old new) (keeps : KeepsFresh old new)
     (leaves : ChangeLeaves (IsReducedBy disks old.core.descriptor) [] disks before after old new) (may : MayReduce disks old.core) (done : HasReduced disks old new) where
