@@ -13,7 +13,7 @@ use Rattle.lvm_session.specs.State.{Core, State, state}
 use Rattle.lvm_volume_lines.specs.passed.Names.{LostForFaults}
 use Rattle.lvm_volume_lines.specs.passed.Ranges.{AnyFailed}
 use Rattle.lvm_volume_lines.specs.passed.RangeLines.{FailsIf, IsOverWith, CarriesBy}
-use Rattle.lvm_volume_lines.specs.passed.Tie.{LeavesSession}
+use Rattle.lvm_volume_lines.specs.passed.Tie.{LeavesSession, MovesOn}
 use Rattle.lvm_volume_lines.specs.passed.GroupLines.{IsBetween, IsClosed, ScriptState, patience_of_line}
 use Rattle.lvm_volume_lines.proofs.passed.Tie.{path_shape}
 use Rattle.lvm_line.specs.Causes.{HasFailedInSession}
