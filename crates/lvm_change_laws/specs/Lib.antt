@@ -1,3 +1,4 @@
-pub mod Turning
 pub mod Committed
+pub mod Examples
 pub mod Rule
+pub mod Turning

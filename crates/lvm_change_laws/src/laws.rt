@@ -2,6 +2,7 @@
 ghost use Rattle.lvm_change_laws.specs.Turning.{ValidAreTwo, TurnKeeps, StateTurnKeeps, TurnIsDone, ReadsAreTwo};
 ghost use Rattle.lvm_change_laws.specs.Rule.{RuleOpens, StatusesLeaveOpen, RerowedMayFollow, TurnWriteKeeps, TurnIsHeld};
 ghost use Rattle.lvm_change_laws.specs.Committed.{CommittedIsRead, CommittedServes, TurnIsCommitted, ErasingKeeps};
+ghost use Rattle.lvm_change_laws.specs.Examples.{ThirdsMayBeErased};
 
 /// While a group turns from one descriptor to its neighbour each history that was kept is kept, and once disks with votes enough by both show the next one
 /// nothing else of the group is found.
@@ -32,4 +33,9 @@ pub fn rules_may_change()
     ensures follows { RerowedMayFollow }
     ensures keeps { TurnWriteKeeps }
     ensures held { TurnIsHeld }
+{}
+
+/// There is a group that a disk has left which may lose its records: of three members that were reduced to two, with quorum checking or without.
+pub fn groups_may_erase()
+    ensures { ThirdsMayBeErased }
 {}

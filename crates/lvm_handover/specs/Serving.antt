@@ -1,5 +1,5 @@
 -- A session that a command on its group has left: where it is sound with requests too.
-use Rattle.std.specs.Prelude.{◌≡◌, ◌==◌, ◌⊎◌, ◌<◌, ◌+◌, ◌^◌, ◌||◌, ◌&&◌, ℕ, Bool, List, [], Result, IsTrue, IsFalse}
+use Rattle.std.specs.Prelude.{◌≡◌, ◌==◌, ◌⊎◌, ◌<◌, ◌≤◌, ◌+◌, ◌^◌, ◌||◌, ◌&&◌, ℕ, Bool, List, [], Result, IsTrue, IsFalse}
 use Rattle.std.specs.List.{list_any}
 use Rattle.lvm_num.specs.declared.descriptor.PvRow.{PvRow}
 use Rattle.lvm_num.specs.declared.place.Pp.{Pp}
@@ -10,12 +10,15 @@ use Rattle.lvm_num.specs.Status.{calls_stale, calls_missing}
 use Rattle.lvm_disk.specs.Counts.{NoneFalls, Rose}
 use Rattle.lvm_vol.specs.Order.{Ordered}
 use Rattle.lvm_kept.specs.Group.{IsOneOf}
+use Rattle.lvm_status.specs.Members.{HasItsRows}
 use Rattle.lvm_status.specs.Table.{SameMissing, SameStale, has_row}
 use Rattle.lvm_commit.specs.Settling.{NoneIsLeft}
 use Rattle.lvm_session.specs.State.{Core, State, state}
+use Rattle.lvm_session.specs.Causes.{FailedSince, faults_at_first}
 use Rattle.lvm_session.specs.Judging.{copies_in, is_missing, is_wanted_stale}
 use Rattle.lvm_session.specs.Left.{updates_left}
 use Rattle.lvm_session.specs.Marks.{is_among}
+use Rattle.lvm_session.specs.Placed.{ArePlaced}
 use Rattle.lvm_session.specs.Sound.{IsSound}
 use Rattle.lvm_handover.specs.passed.Names.{Leaves, Scope, IsSettled, IsSoundAtRest}
 use Rattle.lvm_volumes.specs.passed.Names.{GroupFault, NewVolume, IfOn}
@@ -81,9 +84,32 @@ pub record GoesOnWith (added : List Pp) (old new : State) : Type 0 where
   pub further : (p : Pp) → IsTrue (is_wanted_stale new.core p) → IsTrue (is_wanted_stale old.core p) ⊎ IsTrue (is_among added p) ⊎ IsTrue (is_missing new.core p.disk)
   pub fresh : (lv lp : ℕ) (p : Pp) → IsOneOf (copies_in new.core.descriptor lv lp) p → IsFalse (calls_stale old.core.origin.table p) → IsFalse (is_among added p) → HasFresh new.core lv lp
 
--- A session that was sound is so again, where the command leaves it settled.
+-- The session goes on, also with other members. What it says that it began with is true of it: which disks are missing and which copies stale came with it, or by a fault since, or stand on a
+-- missing disk, or were added. None is left behind, and each logical partition has a fresh copy that had one when it began.
+pub record GoesOnFrom (added : List Pp) (old new : State) : Type 0 where
+  pub is : new.core ≡ record old.core { descriptor = new.core.descriptor; cache = new.core.cache; origin = new.core.origin; history = new.core.history; last = new.core.last; status = new.core.status; homes = new.core.homes }
+  pub entries : new.core.cache.entries ≡ old.core.cache.entries
+  pub placed : ArePlaced new.device.sizes new.core.descriptor new.core.origin.table
+  pub rows : HasItsRows new.core.descriptor new.core.origin.table
+  pub ordered : Ordered new.core.history.run [] new.core.history.facts
+  pub room : new.core.history.room ≡ old.core.history.room
+  pub numbers : new.core.status.stamp.seq + updates_left new.core < 2 ^ 32
+  pub left : NoneIsLeft new.core.descriptor new.core.status
+  pub since : (d : ℕ) → faults_at_first new.core d ≤ new.device.counts.faults d
+  pub still_missing : (d : ℕ) → IsTrue (calls_missing new.core.origin.table d) → IsTrue (is_missing new.core d)
+  pub missing : (d : ℕ) → IsTrue (is_missing new.core d) → IsTrue (calls_missing new.core.origin.table d) ⊎ FailedSince new d
+  pub stale : (p : Pp) → IsTrue (is_wanted_stale new.core p)
+      → IsTrue (calls_stale new.core.origin.table p) ⊎ IsTrue (is_among added p) ⊎ IsTrue (is_missing new.core p.disk) ⊎ FailedSince new p.disk
+  pub fresh : (lv lp : ℕ) (p : Pp) → IsOneOf (copies_in new.core.descriptor lv lp) p → IsFalse (calls_stale new.core.origin.table p) → IsFalse (is_among added p) → HasFresh new.core lv lp
+
+-- A session that was sound is so again, where the command leaves it settled,
 abbrev pub CommandsServe : Type 0
 CommandsServe = (added : List Pp) (old new : State) → IsSound old → IsSettled old.core → IsSettled new.core → GoesOnWith added old new
+    → MayServe added new × (added ≡ [] → StaysSound new)
+
+-- and where its members change.
+abbrev pub OtherMembersServe : Type 0
+OtherMembersServe = (added : List Pp) (old new : State) → IsSound old → IsSettled old.core → IsSettled new.core → GoesOnFrom added old new
     → MayServe added new × (added ≡ [] → StaysSound new)
 
 -- ---- by their contracts

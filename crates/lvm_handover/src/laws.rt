@@ -1,6 +1,6 @@
 //! Laws of the handing over. Each call does nothing: its contract is the law.
 ghost use Rattle.lvm_handover.specs.Beginning.{MadeBegins, VariedOnBegins};
-ghost use Rattle.lvm_handover.specs.Serving.{CommandsServe, MklvServes, RmlvServes};
+ghost use Rattle.lvm_handover.specs.Serving.{CommandsServe, MklvServes, OtherMembersServe, RmlvServes};
 ghost use Rattle.lvm_handover.specs.Settling.{DrainedRests};
 
 /// A session whose turns have nothing left to make, and of which nothing is open, rests: nothing is under way, no
@@ -12,6 +12,11 @@ pub fn drained_rests()
 /// A sound session that a command on its group leaves settled is sound with requests again, by what commands may change.
 pub fn commands_serve()
     ensures { CommandsServe }
+{}
+
+/// So it is where it leaves the group other members, if what the session says that it began with is true of it.
+pub fn other_members_serve()
+    ensures { OtherMembersServe }
 {}
 
 /// So it is by the contract of `mklv`.

@@ -1,6 +1,6 @@
 -- What one request is judged by stays where other parts of a session change.
 use Rattle.std.proofs.Common.{◌≡◌, ◌≤◌, ◌⊎◌, ◌==◌, inl, inr, ℕ, Bool, true, false, ◌&&◌, not, List, Option, Some, None, length, refl, sym, ap, subst, ◌∙◌, arith}
-use Rattle.std.specs.Prelude.{IfSome, count_by, is_none}
+use Rattle.std.specs.Prelude.{IfSome, count_by, if◌then◌else◌, is_none}
 use Rattle.std.specs.List.{list_any}
 use Rattle.lvm_num.specs.declared.descriptor.Descriptor.{Descriptor}
 use Rattle.lvm_num.specs.declared.place.Pp.{Pp}
@@ -23,12 +23,13 @@ use Rattle.lvm_path.specs.declared.target.Target.{Target}
 use Rattle.lvm_path.specs.Targets.{is_done}
 use Rattle.lvm_session.specs.declared.bringing.OpenCopy.{OpenCopy}
 use Rattle.lvm_session.specs.declared.bringing.CopyEnd.{CopyEnd}
+use Rattle.lvm_session.specs.declared.bringing.CopyEnd.TheVariants as ending
 use Rattle.lvm_session.specs.declared.bringing.Step.{Step}
 use Rattle.lvm_session.specs.declared.flown.Flown.{Flown}
 use Rattle.lvm_session.specs.declared.open.Open.{Open}
 use Rattle.lvm_session.specs.State.{Core, State, state}
-use Rattle.lvm_session.specs.Judging.{copies_in, is_caught, is_held_back, is_kept, is_running, is_stale, group_in, is_settled, is_wanted_stale, destinations_for, pps_of}
-use Rattle.lvm_session.specs.Bringing.{groups_of, hand_of, is_idle, is_whole}
+use Rattle.lvm_session.specs.Judging.{copies_in, is_caught, is_held_back, is_kept, is_missing, is_running, is_stale, group_in, is_settled, is_wanted_stale, destinations_for, pps_of}
+use Rattle.lvm_session.specs.Bringing.{end_by_sources, end_of, ends_if, groups_of, hand_of, is_cleared, is_idle, is_whole, next_source, sources_of}
 use Rattle.lvm_session.specs.Enabled.{is_free_step}
 use Rattle.lvm_session.specs.Marks.{is_among}
 use Rattle.lvm_session.specs.Requests.{IsAimed, IsTarget, IsShaped, MayBeServed, IsJudged, IsLaid, IsOpenOne, is_failed_and_sure, may_lack, will_be_kept}
@@ -104,9 +105,9 @@ module _ (core now : Core) (c : OpenCopy) (st : Step) (tried : ℕ) (end : Optio
   pub kind_by : now.descriptor ≡ core.descriptor → now.origin.table ≡ core.origin.table
       → (IsStaleCopy core c → (is_running stepped ≡ true → is_whole now stepped ≡ false → (is_settled now c.pp ≡ true) × (is_wanted_stale now c.pp ≡ true)) × (is_running stepped ≡ true → is_whole now stepped ≡ true → (is_stale now c.pp ≡ true) × (is_wanted_stale now c.pp ≡ false)))
       → (IsMove core c → (is_running stepped ≡ true → is_whole now stepped ≡ true → is_wanted_stale now c.pp ≡ false) × (list_any (stays_fresh now) (copies_in now.descriptor c.lv c.lp) ≡ true))
-      → (b : Bool) → IsOfKind b core c → IsOfKind b now stepped
-  kind_by same origin stale clear false k = record { its = ap (λ (d : Descriptor). copy_at (copies_in d c.lv c.lp) c.copy) same ∙ k.its; stale = (stale k).0; clearing = (stale k).1 }
-  kind_by same origin stale clear true k = record {
+      → (b : Bool) → (b ≡ true → IsMove core c → end ≡ Some ending.Done → ⊥) → IsOfKind b core c → IsOfKind b now stepped
+  kind_by same origin stale clear false ends k = record { its = ap (λ (d : Descriptor). copy_at (copies_in d c.lv c.lp) c.copy) same ∙ k.its; stale = (stale k).0; clearing = (stale k).1 }
+  kind_by same origin stale clear true ends k = record {
     from = k.from;
     its = ap (λ (d : Descriptor). copy_at (copies_in d c.lv c.lp) c.copy) same ∙ k.its;
     free = ap (λ (d : Descriptor). is_among (partitions_used d) c.pp) same ∙ k.free;
@@ -118,22 +119,27 @@ module _ (core now : Core) (c : OpenCopy) (st : Step) (tried : ℕ) (end : Optio
     called = ap (λ (s : Status). calls_stale s c.pp) origin ∙ k.called;
     clear = (clear k).0;
     fresh = (clear k).1;
+    ends = ends refl k;
   }
 
   -- what has ended claims no more of a status than that some copy beside a move stays fresh
   pub kind_over : now.descriptor ≡ core.descriptor → now.origin.table ≡ core.origin.table → is_running stepped ≡ false
-      → (list_any (stays_fresh core) (copies_in core.descriptor c.lv c.lp) ≡ true → list_any (stays_fresh now) (copies_in now.descriptor c.lv c.lp) ≡ true) → (b : Bool) → IsOfKind b core c → IsOfKind b now stepped
+      → (list_any (stays_fresh core) (copies_in core.descriptor c.lv c.lp) ≡ true → list_any (stays_fresh now) (copies_in now.descriptor c.lv c.lp) ≡ true) → (b : Bool) → (b ≡ true → IsMove core c → end ≡ Some ending.Done → ⊥)
+      → IsOfKind b core c → IsOfKind b now stepped
   kind_over same origin over fresh = kind_by same origin (λ k. (λ goes e. no goes, λ goes e. no goes)) (λ k. (λ goes e. no goes, fresh k.fresh))
     where
       no : {X : Type 0} → is_running stepped ≡ true → X
       no goes = absurd (let e : true ≡ false = sym goes ∙ over in cc e)
 
-  -- So it is where the statuses stay, and it runs only where it did.
-  pub kind_still : now.descriptor ≡ core.descriptor → now.origin.table ≡ core.origin.table → now.status ≡ core.status → (is_running stepped ≡ true → is_running c ≡ true) → (b : Bool) → IsOfKind b core c → IsOfKind b now stepped
-  kind_still same origin status runs b k = subst (λ (g : Descriptor × Stored × Status). IsOfKind b (of g) stepped) (λ i. (sym same i, sym status i, sym origin i)) (by b k)
+  -- So it is where the statuses and its end stay.
+  pub kind_still : now.descriptor ≡ core.descriptor → now.origin.table ≡ core.origin.table → now.status ≡ core.status → end ≡ c.end → (b : Bool) → IsOfKind b core c → IsOfKind b now stepped
+  kind_still same origin status ended b k = subst (λ (g : Descriptor × Stored × Status). IsOfKind b (of g) stepped) (λ i. (sym same i, sym status i, sym origin i)) (by b k)
     where
       of : Descriptor × Stored × Status → Core
       of g = record now { descriptor = g.0; status = g.1; origin = record now.origin { table = g.2 } }
+
+      runs : is_running stepped ≡ true → is_running c ≡ true
+      runs goes = sym (ap (λ (e : Option CopyEnd). is_none e) ended) ∙ goes
 
       by : (b : Bool) → IsOfKind b core c → IsOfKind b (of (core.descriptor, core.status, core.origin.table)) stepped
       by false k = record { its = k.its; stale = λ goes part. k.stale (runs goes) part; clearing = λ goes all. k.clearing (runs goes) all }
@@ -149,7 +155,30 @@ module _ (core now : Core) (c : OpenCopy) (st : Step) (tried : ℕ) (end : Optio
         called = k.called;
         clear = λ goes all. k.clear (runs goes) all;
         fresh = k.fresh;
+        ends = λ e. k.ends (sym ended ∙ e);
       }
+
+-- the state as a whole never makes a move end as done
+pub never_done : (core : Core) (c : OpenCopy) → c.moves ≡ true → end_of core c ≡ Some ending.Done → ⊥
+never_done core c moves e = by (is_running c) (is_missing core c.pp.disk) (is_whole core c) (is_cleared core c) (ap (λ b. not b && stays_fresh core c.pp) moves) e
+  where
+    none : None ≡ Some ending.Done → ⊥
+    none same = cc
+
+    failed : Some ending.SyncFailed ≡ Some ending.Done → ⊥
+    failed same = cc
+
+    sources : (a b : Bool) → (if a then Some ending.NoFresh else ends_if b ending.SyncFailed) ≡ Some ending.Done → ⊥
+    sources true b same = cc
+    sources false true same = failed same
+    sources false false same = none same
+
+    by : (a b w d : Bool) → d ≡ false → (if not a then None else if b then Some ending.SyncFailed else if w then ends_if d ending.Done else end_by_sources core c) ≡ Some ending.Done → ⊥
+    by false b w d clear i = none i
+    by true true w d clear i = failed i
+    by true false true true clear i = absurd cc
+    by true false true false clear i = none i
+    by true false false d clear i = sources (length (sources_of core c) == 0) (is_idle c.step && is_none (next_source core c)) i
 
 -- it goes on by the same step, where nothing is in its way and its marks hold
 pub copy_marked : (core now : Core) (c : OpenCopy) → now.descriptor ≡ core.descriptor → next_id core.history ≤ next_id now.history → IsCopy core c → (is_free_step core c ≡ true → is_free_step now c ≡ true)
@@ -206,7 +235,7 @@ module _ (core : Core) (history : Log) (requests : List Open) (queue : Waiting) 
 
   -- the copy that is open
   pub bring_on : (c : OpenCopy) → next_id core.history ≤ next_id history → (is_free_step core c ≡ true → is_free_step changed c ≡ true) → IsCopy core c → IsCopy changed c
-  bring_on c later free its = copy_marked core changed c refl later its free (kind_still core changed c c.step c.tried c.end refl refl refl (λ goes. goes) c.moves its.kind)
+  bring_on c later free its = copy_marked core changed c refl later its free (kind_still core changed c c.step c.tried c.end refl refl refl refl c.moves its.kind)
 
 -- ---- causes
 

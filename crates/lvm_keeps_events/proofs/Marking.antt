@@ -174,7 +174,7 @@ module _ (s : State) (sound : IsSound s) (on : s.core.power ≡ power.On) (lv : 
       (λ is. (
         λ runs whole. wanted_same c.pp ∙ is.clear runs whole,
         any_alike (stays_fresh now.core) (stays_fresh core) (λ p. ap (λ b. not (is_held_stale core p) && not b) (wanted_same p)) (copies_in core.descriptor c.lv c.lp) ∙ is.fresh,
-      )) c.moves k.kind)
+      )) c.moves (λ moves move. move.ends) k.kind)
 
   sources_same : (c : OpenCopy) → sources_of now.core c ≡ sources_of core c
   sources_same c = filter_alike (λ (p : Pp). not (is_pp p c.pp) && is_usable now.core p) (λ (p : Pp). not (is_pp p c.pp) && is_usable core p) (λ p. ap (λ b. not (is_pp p c.pp) && b) (usable_same p)) (copies_in core.descriptor c.lv c.lp)

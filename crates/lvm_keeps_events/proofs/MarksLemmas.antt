@@ -1,11 +1,10 @@
 -- What holds of a request goes on to hold, whatever is wanted stale and however the copy ends.
-use Rattle.std.proofs.Common.{◌≡◌, Some, sym, ap, subst}
+use Rattle.std.proofs.Common.{◌≡◌, sym, ap, subst}
 use Rattle.lvm_status.specs.Update.{Stored}
-use Rattle.lvm_session.specs.Bringing.{with_copy_end}
 use Rattle.lvm_session.specs.State.{Core}
 use Rattle.lvm_session.specs.Requests.{IsOpenOne}
 use Rattle.lvm_keeps_events.specs.Marks.{CopyEndsKeepRequests, MarksKeepRequests}
-use Rattle.lvm_keeps_events.proofs.SoundLemmas.Failing.{leaves, one_on as one_beside, pool, queue}
+use Rattle.lvm_keeps_events.proofs.SoundLemmas.Failing.{one_ended}
 use Rattle.lvm_keeps_events.proofs.JudgingLemmas.Staling.{IsStaled, one_on, staled}
 
 pub marks_keep_requests : MarksKeepRequests
@@ -15,4 +14,4 @@ marks_keep_requests core due next o sound wants it = subst (λ (u : Stored). IsO
     marked = staled due core.status next sound wants
 
 pub copy_ends_keep_requests : CopyEndsKeepRequests
-copy_ends_keep_requests core c how o going is it = one_beside core (queue core going c is how) (Some (with_copy_end c how)) (pool core going c is how) (leaves core going c is how) o it
+copy_ends_keep_requests core c how o going is it = one_ended core going c is how o it

@@ -114,6 +114,7 @@ move = record {
     called = refl;
     clear = λ runs whole. not_so whole;
     fresh = refl;
+    ends = λ e. let failed_is : Some ending.SyncFailed ≡ Some ending.Done = e in cc;
   };
   cursor = omega arith;
   faults = refl;

@@ -4,3 +4,4 @@ pub mod TieCommands
 pub mod Varyon
 pub mod Tie
 pub mod GroupLines
+pub mod RangeLines

@@ -26,28 +26,33 @@ use Rattle.lvm_status.specs.Update.{is_held, is_owed, is_there as is_there_so, m
 use Rattle.lvm_write.specs.Written.{HasRoom}
 use Rattle.lvm_commit.specs.Settling.{MaySettle, many_there}
 use Rattle.lvm_session.specs.declared.bringing.OpenCopy.{OpenCopy}
+use Rattle.lvm_session.specs.declared.answers.CopyState.{CopyState}
+use Rattle.lvm_session.specs.declared.answers.CopyState.TheVariants as copy
+use Rattle.lvm_session.specs.declared.bringing.CopyEnd.{CopyEnd}
 use Rattle.lvm_session.specs.declared.bringing.CopyEnd.TheVariants as ending
+use Rattle.lvm_session.specs.Calls.{is_still_aimed, state_at_end, state_of_copy}
+use Rattle.lvm_session.proofs.MovesLemmas.{move_of}
 use Rattle.lvm_session.specs.declared.event.Event.{Event}
 use Rattle.lvm_session.specs.declared.event.Event.TheVariants as event
 use Rattle.lvm_session.specs.declared.flown.Flown.{Flown}
 use Rattle.lvm_session.specs.declared.flown.Owner.{Owner}
 use Rattle.lvm_session.specs.declared.flown.Owner.TheVariants as owner
 use Rattle.lvm_session.specs.declared.open.Open.{Open}
-use Rattle.lvm_session.specs.Bringing.{end_by_sources, end_of, ends_if, is_cleared, is_whole}
+use Rattle.lvm_session.specs.Bringing.{end_by_sources, end_of, ends_if, is_cleared, is_out, is_whole}
 use Rattle.lvm_session.specs.Dark.{hand_of_copy}
 use Rattle.lvm_session.specs.Enabled.{first_of, has_buffer, is_status_due, landing, or_next, parts_to_settle, parts_to_start, same_status}
 use Rattle.lvm_session.specs.Judging.{is_beside_copy, is_held_by_move, is_missing, is_move_done, is_past_held, is_running, is_under_way, is_waiting, stays_fresh}
 use Rattle.lvm_session.specs.Left.{copy_updates}
 use Rattle.lvm_session.specs.Owners.{flies, same_owner}
 use Rattle.lvm_session.specs.Requests.{IsOpenOne, IsPhase}
-use Rattle.lvm_session.specs.Sound.{IsCopy, IsGoing, IsOn, IsSound, count_if, has_number, is_dark, is_hand}
+use Rattle.lvm_session.specs.Sound.{IsCopy, IsGoing, IsMove, IsOn, IsSound, count_if, has_number, is_dark, is_hand}
 use Rattle.lvm_session.specs.State.{Core, State, is_there, votes_there}
 use Rattle.lvm_keeps.proofs.Lists.{count_cons}
 use Rattle.lvm_keeps.proofs.Small.{both, is_false}
 use Rattle.lvm_keeps.proofs.VotesLemmas.{enough_more, more_votes}
 use Rattle.lvm_keeps_events.proofs.KeepsFallsLemmas.Standing.{never_stands_still}
 use Rattle.lvm_move.specs.Moving.{MayWriteMove, missing_destination}
-use Rattle.lvm_move_keeps.specs.Drained.{DoneMayCommit, DrainedIsDone, IsDrainedMoving, MayCommitMove}
+use Rattle.lvm_move_keeps.specs.Drained.{DoneIsJudged, DoneMayCommit, DrainedIsDone, IsDrainedMoving, MayCommitMove}
 use Rattle.lvm_move_keeps.specs.Keeping.{HasMovedTo, IsDoneMoving}
 use Rattle.lvm_move_keeps.specs.Waiting.{IsUnadmitted}
 use Rattle.lvm_move_keeps.proofs.EndingLemmas.{none_flown}
@@ -60,6 +65,25 @@ use Rattle.lvm_move_keeps.proofs.SameLemmas.{status_is}
 or_none : (a b : Option Event) → or_next a b ≡ None → (a ≡ None) × (b ≡ None)
 or_none None b e = (refl, e)
 or_none (Some it) b e = absurd (cc e)
+
+-- a request that isn't admitted, or has landed, has nothing in hand
+pub empty_held : (core : Core) (o : Open) → IsOpenOne core o → IsUnadmitted o → o.got ≡ None
+empty_held core o it held = by (is_waiting o) refl
+  where
+    none_some : (m : Option Buffer) → is_some m ≡ false → m ≡ None
+    none_some None e = refl
+    none_some (Some buf) e = absurd (cc e)
+
+    and_none : (b : Bool) → b && false ≡ false
+    and_none true = refl
+    and_none false = refl
+
+    by : (b : Bool) → is_waiting o ≡ b → o.got ≡ None
+    by false e = (it.over e).hand
+    by true e =
+        let shape = (it.waits e).shape in
+        let none : o.request.targets.items ≡ [] = (subst (λ (p : Phase). IsPhase p o) (held e) shape.phase_is).0 in
+        none_some o.got (shape.hand ∙ ap (λ (ts : List Target). not (is_write o.request.ask) && list_any (λ (t : Target). is_done t.state) ts) none ∙ and_none (not (is_write o.request.ask)))
 
 module _ (s : State) (c : OpenCopy) (sound : IsSound s) (drained : IsDrainedMoving s c) where
   abbrev core : Core
@@ -128,27 +152,9 @@ module _ (s : State) (c : OpenCopy) (sound : IsSound s) (drained : IsDrainedMovi
 
   -- ---- nothing is in hand
 
-  empty_one : (o : Open) → IsOpenOne core o → IsUnadmitted o → o.got ≡ None
-  empty_one o it held = by (is_waiting o) refl
-    where
-      none_some : (m : Option Buffer) → is_some m ≡ false → m ≡ None
-      none_some None e = refl
-      none_some (Some buf) e = absurd (cc e)
-
-      and_none : (b : Bool) → b && false ≡ false
-      and_none true = refl
-      and_none false = refl
-
-      by : (b : Bool) → is_waiting o ≡ b → o.got ≡ None
-      by false e = (it.over e).hand
-      by true e =
-          let shape = (it.waits e).shape in
-          let none : o.request.targets.items ≡ [] = (subst (λ (p : Phase). IsPhase p o) (held e) shape.phase_is).0 in
-          none_some o.got (shape.hand ∙ ap (λ (ts : List Target). not (is_write o.request.ask) && list_any (λ (t : Target). is_done t.state) ts) none ∙ and_none (not (is_write o.request.ask)))
-
   empty : (os : List Open) → AllByRecursion (IsOpenOne core) os → AllByRecursion IsUnadmitted os → AllByRecursion (λ (o : Open). o.got ≡ None) os
   empty [] all held = tt
-  empty (o ∷ os) all held = (empty_one o all.0 held.0, empty os all.1 held.1)
+  empty (o ∷ os) all held = (empty_held core o all.0 held.0, empty os all.1 held.1)
 
   move : IsWholeMove core c
   move = whole_move core c drained.done
@@ -269,8 +275,8 @@ module _ (s : State) (c : OpenCopy) (sound : IsSound s) (drained : IsDrainedMovi
           ∙ ap (λ b. if b then Some ending.SyncFailed else if is_whole core c then ends_if (is_cleared core c) ending.Done else end_by_sources core c) e
           ) ∙ ends in absurd (cc failed)
 
-  none_missing : missing_destination core ≡ None
-  none_missing = ap (λ m. option_map_or (λ (k : OpenCopy). if is_missing core k.pp.disk then Some k.pp.disk else None) m None) drained.is_open ∙ ap (λ b. if b then Some c.pp.disk else None) there_still
+  pub missing_none : missing_destination core ≡ None
+  missing_none = ap (λ m. option_map_or (λ (k : OpenCopy). if is_missing core k.pp.disk then Some k.pp.disk else None) m None) drained.is_open ∙ ap (λ b. if b then Some c.pp.disk else None) there_still
 
   -- a member that isn't missing has room for records
   has_room : (disk : ℕ) → IsTrue (members_there core.status.group core.status.wanted disk) → HasRoom s.device disk
@@ -318,8 +324,39 @@ module _ (s : State) (c : OpenCopy) (sound : IsSound s) (drained : IsDrainedMovi
     may_commit_move = record {
       may = record { ready = let lit = sound.lit (ap is_dark drained.on) in record { flights = drained.idle; freed = lit.freed; power = lit.power }; settle = settle; numbers = numbers };
       writes = may_write;
-      there = none_missing;
+      there = missing_none;
     }
+
+-- ---- the state that a caller sees
+
+pub done_is_judged : DoneIsJudged
+done_is_judged s c sound on is moves state_is = by (is_out c.step) (is_still_aimed s.core c) (is_move_done s.core c) c.end refl refl (sym (shown (is_out c.step) (is_still_aimed s.core c) (is_move_done s.core c) c.end refl refl refl refl) ∙ state_so)
+  where
+    told : Bool → Bool → Bool → Option CopyEnd → CopyState
+    told out aimed done end = if out || aimed then copy.Running c.cursor else if done then copy.Done else option_map_or (state_at_end c) end (copy.Running c.cursor)
+
+    shown : (out aimed done : Bool) (end : Option CopyEnd) → is_out c.step ≡ out → is_still_aimed s.core c ≡ aimed → is_move_done s.core c ≡ done → c.end ≡ end → state_of_copy s.core c ≡ told out aimed done end
+    shown out aimed done end a b d e =
+        ap (λ x. told x (is_still_aimed s.core c) (is_move_done s.core c) c.end) a ∙ ap (λ x. told out x (is_move_done s.core c) c.end) b ∙ ap (λ x. told out aimed x c.end) d ∙ ap (told out aimed done) e
+
+    state_so : state_of_copy s.core c ≡ copy.Done
+    state_so = sym (ap (λ m. option_map_or (state_of_copy s.core) m copy.Closed) is) ∙ state_is
+
+    its : IsMove s.core c
+    its = move_of s.core c (subst (λ m. IfSome m (IsCopy s.core)) is (sound.on on).going.copy) moves
+
+    running : {X : Type 0} (cursor : ℕ) → copy.Running cursor ≡ copy.Done → X
+    running cursor no = absurd cc
+
+    by : (out aimed done : Bool) (end : Option CopyEnd) → is_move_done s.core c ≡ done → c.end ≡ end → told out aimed done end ≡ copy.Done → is_move_done s.core c ≡ true
+    by out aimed true end d e t = d
+    by true aimed false end d e t = running c.cursor t
+    by false true false end d e t = running c.cursor t
+    by false false false None d e t = running c.cursor t
+    by false false false (Some ending.Done) d e t = absurd (its.ends e)
+    by false false false (Some ending.SyncFailed) d e t = absurd (let no : copy.SyncFailed c.pp.disk ≡ copy.Done = t in cc no)
+    by false false false (Some ending.NoFresh) d e t = absurd (let no : copy.NoFresh ≡ copy.Done = t in cc no)
+    by false false false (Some ending.Ended) d e t = absurd (let no : copy.Ended ≡ copy.Done = t in cc no)
 
 pub drained_is_done : DrainedIsDone
 drained_is_done s c sound drained = is_done_moving s c sound drained

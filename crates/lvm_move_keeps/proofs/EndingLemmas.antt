@@ -89,7 +89,7 @@ module _ (s : State) (c : OpenCopy) (next : Descriptor) (last : Stored) (homes :
   going : IsGoing old
   going = (sound.on may.on).going
 
-  fits : IsFitting base
+  pub fits : IsFitting base
   fits = let f = sound.fitting in record {
     valid = f.valid;
     id = is.loses.rows.id ∙ f.id;
@@ -119,7 +119,7 @@ module _ (s : State) (c : OpenCopy) (next : Descriptor) (last : Stored) (homes :
   abbrev Why : Pp → Type 0
   Why p = (calls_stale old.origin.table p ≡ true) ⊎ (is_missing base p.disk ≡ true) ⊎ FailedSince (state device base) p.disk
 
-  origin : IsTrueToOrigin (state device base)
+  pub origin : IsTrueToOrigin (state device base)
   origin = let was = sound.origin in record {
     since = λ disk. let a = was.since disk in let b = is.falls.faults disk in omega (arith, a, b);
     votes = was.votes;
@@ -160,7 +160,7 @@ module _ (s : State) (c : OpenCopy) (next : Descriptor) (last : Stored) (homes :
   target_on : (t : Target) → TargetHasFailed s.device t → TargetHasFailed device t
   target_on t rose = rose_after rose (is.falls.faults t.pp.disk)
 
-  counts_on : (t : Target) → IsCounted s t → IsCounted (state device base) t
+  pub counts_on : (t : Target) → IsCounted s t → IsCounted (state device base) t
   counts_on t one = record { began = one.began; since = let a = one.since in let b = is.falls.faults t.pp.disk in omega (arith, a, b) }
 
   -- the copy hadn't ended
@@ -183,7 +183,7 @@ module _ (s : State) (c : OpenCopy) (next : Descriptor) (last : Stored) (homes :
     failed = λ e. not_failed (failed_before c.end e);
   }
 
-  landed_more : (now : State) → now.device ≡ device → now.core.descriptor ≡ old.descriptor → now.core.origin ≡ old.origin → (o : Open) (how : Outcome) → (how ≡ outcome.Dark → ⊥) → IsLandedFor s o how → IsLandedFor now o how
+  pub landed_more : (now : State) → now.device ≡ device → now.core.descriptor ≡ old.descriptor → now.core.origin ≡ old.origin → (o : Open) (how : Outcome) → (how ≡ outcome.Dark → ⊥) → IsLandedFor s o how → IsLandedFor now o how
   landed_more now at group first o outcome.Done apart why = tt
   landed_more now at group first o outcome.Got apart why = tt
   landed_more now at group first o outcome.Lost apart why = (

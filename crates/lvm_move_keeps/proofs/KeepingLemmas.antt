@@ -445,7 +445,7 @@ module _ (s : State) (c : OpenCopy) (next : Descriptor) (last st : Stored) (home
 
 module _ (s : State) (c : OpenCopy) (next : Descriptor) (content : List ℕ) (before after : ℕ) (new : State) (sound : IsSound s) (may : IsDoneMoving s c) (moved : HasMovedTo c.lv c.lp c.pp s.core.descriptor next) (last : Stored) (homes : Homes)
     (leaves : CommitLeaves next (IsOfCommit content s.core.status last) before after s.core.status last s.device new.device) (held : HoldsWithin s.core.status last) (falls : NoneFalls s.device.counts new.device.counts) where
-  over : IsLeftOver s next last new.device
+  pub over : IsLeftOver s next last new.device
   over = record { valid = moved.valid; alike = moved.alike; loses = leaves.loses; left = leaves.left; held = held; sizes = leaves.keeps.sizes; falls = falls }
 
   by_end : (how : CommitEnd) (answer : Result (Unit {0}) CommitFault) → DescriptorEnds content 0 before s.core.status last s.core.homes homes s.device new.device how → MoveEnds next last homes s.core new.core how answer → (answer ≡ Err fault.Stuck → ⊥) → IsSound new

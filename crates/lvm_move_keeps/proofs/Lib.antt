@@ -9,3 +9,4 @@ pub mod DrainedLemmas
 pub mod MovedLemmas
 pub mod StandsLemmas
 pub mod WorkedLemmas
+pub mod StuckLemmas

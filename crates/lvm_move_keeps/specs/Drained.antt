@@ -2,8 +2,10 @@
 use Rattle.std.specs.Prelude.{◌≡◌, ◌≢◌, [], None, Some, true, false}
 use Rattle.lvm_num.specs.declared.descriptor.Descriptor.{Descriptor}
 use Rattle.lvm_commit.specs.Settling.{MayCommit}
+use Rattle.lvm_session.specs.declared.answers.CopyState.TheVariants as copy
 use Rattle.lvm_session.specs.declared.bringing.OpenCopy.{OpenCopy}
 use Rattle.lvm_session.specs.declared.open.Power.TheVariants as power
+use Rattle.lvm_session.specs.Calls.{copy_state}
 use Rattle.lvm_session.specs.Enabled.{first_event, is_lost}
 use Rattle.lvm_session.specs.Judging.{is_move_done}
 use Rattle.lvm_session.specs.Sound.{IsSound}
@@ -33,3 +35,7 @@ pub record MayCommitMove (s : State) (next : Descriptor) : Type 0 where
 -- So its descriptor may be committed, and its destination's disk isn't missing.
 abbrev pub DoneMayCommit : Type 0
 DoneMayCommit = (s : State) (c : OpenCopy) (next : Descriptor) → IsSound s → IsDrainedMoving s c → HasMovedTo c.lv c.lp c.pp s.core.descriptor next → s.core.status.stamp.epoch ≢ 0 → MayCommitMove s next
+
+-- Of a session that goes on a move tells that it is done only where it is.
+abbrev pub DoneIsJudged : Type 0
+DoneIsJudged = (s : State) (c : OpenCopy) → IsSound s → s.core.power ≡ power.On → s.core.copy ≡ Some c → c.moves ≡ true → copy_state s.core ≡ copy.Done → is_move_done s.core c ≡ true

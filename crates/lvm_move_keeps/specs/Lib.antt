@@ -3,3 +3,4 @@ pub mod Keeping
 pub mod Moved
 pub mod Drained
 pub mod Worked
+pub mod Stuck

@@ -1,7 +1,8 @@
 //! Laws. Each call does nothing: its contract is the law.
-ghost use Rattle.lvm_move_keeps.specs.Drained.{DoneMayCommit, DrainedIsDone};
+ghost use Rattle.lvm_move_keeps.specs.Drained.{DoneIsJudged, DoneMayCommit, DrainedIsDone};
 ghost use Rattle.lvm_move_keeps.specs.Keeping.{MoveKeepsSound};
 ghost use Rattle.lvm_move_keeps.specs.Moved.{MoveHasMoved, MovedHasMoved};
+ghost use Rattle.lvm_move_keeps.specs.Stuck.{StuckMoveIsSound, StuckSessionsMayWait};
 ghost use Rattle.lvm_move_keeps.specs.Waiting.{WaitingStays};
 ghost use Rattle.lvm_move_keeps.specs.Worked.{MovesMayBeCommitted};
 
@@ -14,6 +15,22 @@ pub fn waiting_stays()
 pub fn drained_moves_may_be_committed()
     ensures done { DrainedIsDone }
     ensures may { DoneMayCommit }
+{}
+
+/// A move tells that it is done only where it is: all of it is copied, its place is fresh, and nothing is under way on its
+/// logical partition.
+pub fn done_is_judged()
+    ensures { DoneIsJudged }
+{}
+
+/// Where a transfer of the commit of a move isn't heard of, the session is sound once its copy is closed and it is stuck.
+pub fn stuck_move_is_sound()
+    ensures { StuckMoveIsSound }
+{}
+
+/// A stuck session that is written out, in which a write waits for admission, is sound.
+pub fn stuck_sessions_may_wait()
+    ensures { StuckSessionsMayWait }
 {}
 
 /// However the commit of a move ends the session stays sound, but where a transfer isn't heard of.

@@ -5,6 +5,6 @@
 mod laws;
 
 pub use laws::{
-    drained_moves_may_be_committed, move_keeps_sound, moved_has_moved, moves_may_be_committed,
-    waiting_stays,
+    done_is_judged, drained_moves_may_be_committed, move_keeps_sound, moved_has_moved,
+    moves_may_be_committed, stuck_move_is_sound, stuck_sessions_may_wait, waiting_stays,
 };

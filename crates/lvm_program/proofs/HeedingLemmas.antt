@@ -25,7 +25,7 @@ use Rattle.lvm_line.specs.Complete.{NothingFailed}
 use Rattle.lvm_line.specs.Lines.{IsLine, IsOrder, LineDoes, role_of}
 use Rattle.lvm_line.specs.Told.{NothingSince}
 use Rattle.lvm_line.specs.passed.GroupLines.{ArrangeDoes, CutDoes, CutNotPlanned, IsArranged, NotPlanned, NotThere, PowerIsCut, IsAlone, IsClosed, IsTimely, Reply, ScriptState, StandsBy, patience_of_line}
-use Rattle.lvm_group_lines.specs.declared.reply.Refusal.TheVariants as refusal
+use Rattle.lvm_line.specs.passed.RefusalVariants as refusal
 use Rattle.lvm_line.specs.passed.ReplyVariants as reply
 use Rattle.lvm_top.specs.Ending.{Concludes, NoneIsOn, NoneIsServed, IsServed, NothingIsLeft, TurnsAreMade}
 use Rattle.lvm_top.proofs.passed.Tie.{path_frames}

@@ -26,15 +26,15 @@ use Rattle.lvm_line.specs.Lines.{IsLine, LineDoes, role_of}
 use Rattle.lvm_line.specs.passed.ReplyVariants as reply
 use Rattle.lvm_line.specs.passed.GroupLines.{IsBetween, IsOnBetween, IsRequesting, Reply, ScriptState, is_unheard}
 use Rattle.lvm_line.specs.passed.RangeLines.{CarriesBy, EndsWell, Fails, FailsIf, Finishes, NoStepWhileOff, NotBegun, NotPosted, NotThere, NothingMoves, OnVolume, Posted, Posts, StepDoes, Steps, There, WhileOff}
-use Rattle.lvm_range_lines.specs.Answers.{TellsAll}
-use Rattle.lvm_range_lines.specs.Refusals.{Ending, is_stuck}
+use Rattle.lvm_line.specs.passed.RangeLinesWaiting.{TellsAll}
+use Rattle.lvm_line.specs.passed.RangeLines.{Ending, is_stuck}
 use Rattle.lvm_line.specs.passed.RangeLinesWaiting.{AtRest, Awaits, Goes, InVain, Over, WaitDoes, WaitEnds, WaitsOn, WhileOff as WaitsWhileOff}
-use Rattle.lvm_range_lines.specs.Waiting.{NoGone, OneGone, TakesGone, WaitsOver}
+use Rattle.lvm_line.specs.passed.RangeLinesWaiting.{NoGone, OneGone, TakesGone, WaitsOver}
 use Rattle.lvm_line.specs.passed.Resync.{Copy, SyncFault}
 use Rattle.lvm_line.specs.passed.Tie.{LeavesSession}
 use Rattle.lvm_line.specs.passed.VolumeLines.{IsSynced, NoGroupForSync, NoVolumeForSync, NothingSyncs, OtherGroupForSync, SyncGroupDoes, SyncVolumeDoes, SyncsGroup, SyncsVolume}
 use Rattle.lvm_line.proofs.CausesLemmas.Turns.{fails_counts, leaves_counts, over_counts}
-use Rattle.lvm_group_lines.proofs.MomentsLemmas.Going.{same_goes}
+use Rattle.lvm_line.proofs.passed.GroupLines.{same_goes}
 use Rattle.lvm_line.proofs.passed.Tie.{goes_any, path_shape}
 use Rattle.lvm_parse.specs.Reading.{ends}
 use Rattle.lvm_program.specs.Landing.{LandsInLine, LinesLandWell, NothingSince, SomeLineLandsWell}

@@ -6,8 +6,8 @@ use Rattle.lvm_order_laws.specs.Worked.{fresh}
 use Rattle.lvm_order_laws.proofs.AloneLemmas.{fresh_is_unharmed}
 use Rattle.lvm_parse.specs.Reading.{ends, operand}
 use Rattle.lvm_parse.specs.Grammar.{line_of}
-use Rattle.lvm_group_lines.specs.declared.reply.Refusal.TheVariants as refusal
-use Rattle.lvm_group_lines.proofs.MomentsLemmas.Going.{same_goes}
+use Rattle.lvm_line.specs.passed.RefusalVariants as refusal
+use Rattle.lvm_line.proofs.passed.GroupLines.{same_goes}
 use Rattle.lvm_line.specs.Lines.{IsLine, role_of}
 use Rattle.lvm_line.specs.passed.GroupLines.{IsAlone, Role, IsBetween, Reply, ScriptState}
 use Rattle.lvm_line.specs.passed.RangeLines.{NoStepWhileOff}

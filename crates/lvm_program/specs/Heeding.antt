@@ -16,7 +16,7 @@ use Rattle.lvm_core.specs.declared.parts.Room.{Room}
 use Rattle.lvm_line.specs.Lines.{IsOrder}
 use Rattle.lvm_line.specs.Told.{IsWellTold}
 use Rattle.lvm_line.specs.passed.GroupLines.{Reply, ScriptState}
-use Rattle.lvm_group_lines.specs.declared.reply.Refusal.TheVariants as refusal
+use Rattle.lvm_line.specs.passed.RefusalVariants as refusal
 use Rattle.lvm_line.specs.passed.ReplyVariants as reply
 use Rattle.lvm_top.specs.declared.status.ExitStatus.TheVariants as ended
 use Rattle.lvm_top.specs.Laws.{MayRun}

@@ -19,8 +19,8 @@ use Rattle.lvm_load.specs.Lending.{KeepsServing}
 use Rattle.lvm_load.specs.Serving.{IsLoadedBy}
 use Rattle.lvm_ranges.specs.declared.fault.SyncFault.{SyncFault}
 use Rattle.lvm_ranges.specs.declared.fault.SyncFault.TheVariants as fault
-use Rattle.lvm_group_lines.specs.declared.reply.Refusal.{Refusal}
-use Rattle.lvm_group_lines.specs.declared.reply.Refusal.TheVariants as refusal
+use Rattle.lvm_line.specs.passed.GroupLines.{Refusal}
+use Rattle.lvm_line.specs.passed.RefusalVariants as refusal
 use Rattle.lvm_top.specs.passed.Lines.{IsLine, role_of}
 use Rattle.lvm_line.specs.passed.ReplyVariants as reply
 use Rattle.lvm_top.specs.passed.HolderVariants as holder

@@ -10,7 +10,7 @@ use Rattle.lvm_parse.specs.declared.rest.Misfit.{Misfit}
 use Rattle.lvm_parse.specs.Grammar.{line_of}
 use Rattle.lvm_core.specs.declared.parts.Room.{Room}
 use Rattle.lvm_session.specs.State.{Core}
-use Rattle.lvm_volume_lines.specs.Sharing.{SharesSession}
+use Rattle.lvm_line.specs.passed.VolumeLines.{SharesSession}
 use Rattle.lvm_line.specs.passed.GroupLines.{Reply, ScriptState}
 use Rattle.lvm_line.specs.passed.ReplyVariants as reply
 use Rattle.lvm_top.specs.Script.{AtLine, Ends, InLine, NextLine, NoLine, Script}

@@ -15,8 +15,8 @@ use Rattle.lvm_session.specs.State.{Core, State}
 use Rattle.lvm_volumes.specs.Tidying.{TidyGives, to_tidy}
 use Rattle.lvm_volumes.specs.Stages.{CommandBroke}
 use Rattle.lvm_volumes.proofs.StagesLemmas.Breaking.{broken}
-use Rattle.lvm_tie_commands.proofs.CommandsLemmas.Tidying.{tidy_goes_on}
-use Rattle.lvm_group_lines.specs.Groups.{VaryoffDoes as ClosesDoes, NoVaryoff as NoneToClose, BusyVaryoff as BusyToClose, VariesOff as Closes}
+use Rattle.lvm_range_lines.proofs.passed.TieCommands.{tidy_goes_on}
+use Rattle.lvm_range_lines.specs.passed.GroupLines.{VaryoffDoes as ClosesDoes, NoVaryoff as NoneToClose, BusyVaryoff as BusyToClose, VariesOff as Closes}
 use Rattle.lvm_range_lines.specs.passed.Names.{AreAnswered, ends_session, fault_of, is_over}
 use Rattle.lvm_range_lines.specs.passed.VolumePlanFaultGroupFault as fault
 use Rattle.lvm_range_lines.specs.passed.GroupLines.{Aside, CommandEnds, EndsUnasked, patience_of_line, LineGoesOn, HaveRooms, IsBetweenStage, IsFittingStage, IsOn, OfGroup, history_in, most_refusals, open_in, session_in, shelf_in, state_in, ScriptState, without_facts, Reply, Stage}

@@ -18,6 +18,7 @@ use Rattle.lvm_num.proofs.AmongLemmas.{one_any}
 use Rattle.lvm_disk.specs.Counts.{Rose}
 use Rattle.lvm_disk.proofs.CountingLemmas.{rose_after, rose_before}
 use Rattle.lvm_kept.specs.Group.{IsOneOf}
+use Rattle.lvm_mwc.specs.declared.entries.CacheEntry.{CacheEntry}
 use Rattle.lvm_mwc.specs.Cache.{Cached, flight_on}
 use Rattle.lvm_mwc.specs.Entries.{pins_of}
 use Rattle.lvm_status.specs.Runs.{IsSoundStatus}
@@ -46,7 +47,7 @@ use Rattle.lvm_keeps.proofs.Lists.{count_cons}
 use Rattle.lvm_num.proofs.AmongLemmas.{any_one}
 use Rattle.std.proofs.lemmas.Bool.{or_left, or_right}
 use Rattle.lvm_volumes.specs.Endings.{HasFresh}
-use Rattle.lvm_handover.specs.Serving.{CommandsServe, GoesOnWith, OriginIsMarked, is_gone}
+use Rattle.lvm_handover.specs.Serving.{CommandsServe, GoesOnFrom, GoesOnWith, OriginIsMarked, OtherMembersServe, is_gone}
 use Rattle.lvm_handover.proofs.MarksLemmas.{not_entailed}
 use Rattle.lvm_keeps.proofs.VotesLemmas.{enough_more, more_votes}
 use Rattle.lvm_handover.proofs.VotesLemmas.{each_row, no_votes, not_enough}
@@ -82,7 +83,7 @@ pub record IsLeftSettled (new : State) : Type 0 where
   pub sound : IsSoundAtRest new
   pub settled : IsSettled new.core
 
-module _ (added : List Pp) (old new : State) (sound : IsSound old) (began : IsSettled old.core) (is : IsLeftSettled new) (goes : GoesOnWith added old new) where
+module _ (added : List Pp) (old new : State) (sound : IsSound old) (began : IsSettled old.core) (is : IsLeftSettled new) (goes : GoesOnFrom added old new) where
   -- ---- what is as it was
 
   old_going : IsGoing old.core
@@ -105,12 +106,6 @@ module _ (added : List Pp) (old new : State) (sound : IsSound old) (began : IsSe
 
   writes : (disk : ℕ) → (has new.core.status.writes.unstarted disk ≡ false) × (has new.core.status.writes.started disk ≡ false) × (has new.core.status.writes.written disk ≡ false) × (has new.core.status.writes.failed disk ≡ false)
   writes = is.sound.fitting.forgotten is.settled.quiet.status
-
-  origin : new.core.origin ≡ old.core.origin
-  origin = ap (λ (c : Core). c.origin) goes.is
-
-  cache : new.core.cache ≡ old.core.cache
-  cache = ap (λ (c : Core). c.cache) goes.is
 
   rows : new.core.queue.rows ≡ []
   rows = ap (λ (c : Core). c.queue.rows) goes.is ∙ old_going.queue
@@ -160,27 +155,15 @@ module _ (added : List Pp) (old new : State) (sound : IsSound old) (began : IsSe
     abbrev s : State
     s = state new.device core
 
-    stale_as : (p : Pp) → calls_stale t p ≡ (calls_stale old.core.origin.table p || is_among added p)
-    stale_as p = stale p ∙ ap (λ (o : Origin). calls_stale o.table p || is_among added p) origin
-
-    same_first : (disk : ℕ) → calls_missing new.core.origin.table disk ≡ calls_missing old.core.origin.table disk
-    same_first disk = ap (λ (o : Origin). calls_missing o.table disk) origin
-
-    missing_first : (disk : ℕ) → calls_missing old.core.origin.table disk ≡ true → calls_missing t disk ≡ true
-    missing_first disk gone = was disk (same_first disk ∙ gone)
-
-    was_there : (disk : ℕ) → calls_missing t disk ≡ false → calls_missing old.core.origin.table disk ≡ false
-    was_there disk there = by (calls_missing old.core.origin.table disk) refl
+    was_there : (disk : ℕ) → calls_missing t disk ≡ false → calls_missing new.core.origin.table disk ≡ false
+    was_there disk there = by (calls_missing new.core.origin.table disk) refl
       where
-        by : (b : Bool) → calls_missing old.core.origin.table disk ≡ b → b ≡ false
-        by true gone = absurd (let no : true ≡ false = sym (missing_first disk gone) ∙ there in cc no)
+        by : (b : Bool) → calls_missing new.core.origin.table disk ≡ b → b ≡ false
+        by true gone = absurd (let no : true ≡ false = sym (was disk gone) ∙ there in cc no)
         by false here = refl
 
     missing_now : (disk : ℕ) → calls_missing t disk ≡ true → is_missing core disk ≡ true
-    missing_now disk gone = ⊎_elim (λ (at : calls_missing new.core.origin.table disk ≡ true). goes.stays disk (sound.origin.still_missing disk (sym (same_first disk) ∙ at))) (λ (now : is_missing new.core disk ≡ true). now) (so disk gone)
-
-    at_first : (disk : ℕ) → faults_at_first core disk ≡ faults_at_first old.core disk
-    at_first disk = ap (λ (o : Origin). slice_index_or o.faults disk 0) origin
+    missing_now disk gone = ⊎_elim (λ (at : calls_missing new.core.origin.table disk ≡ true). goes.still_missing disk at) (λ (now : is_missing new.core disk ≡ true). now) (so disk gone)
 
     fitting : IsFitting core
     fitting = record {
@@ -235,7 +218,7 @@ module _ (added : List Pp) (old new : State) (sound : IsSound old) (began : IsSe
         apart a false c is none = (refl, sym is ∙ none)
 
         by : (p : Pp) → IsOneOf (copies_in core.descriptor lv lp) p → (a b : Bool) → calls_stale t p ≡ a → is_wanted_stale new.core p ≡ b → may_be_fresh core p ≡ true → HasFresh new.core lv lp
-        by p of_it false b was now may = let both = apart (calls_stale t p) (calls_stale old.core.origin.table p) (is_among added p) (stale_as p) was in goes.fresh lv lp p of_it both.0 both.1
+        by p of_it false b was now may = let both = apart (calls_stale t p) (calls_stale new.core.origin.table p) (is_among added p) (stale p) was in goes.fresh lv lp p of_it both.0 both.1
         by p of_it true false was now may = one_any (λ (q : Pp). not (is_wanted_stale new.core q)) (copies_in core.descriptor lv lp) p of_it (ap not now)
         by p of_it true true was now may =
             absurd (let no : false ≡ true = sym (ap (λ (b : Bool). not b || not (is_settled new.core p && is_wanted_stale new.core p)) was ∙ ap not (settled_as p) ∙ ap not now) ∙ may in cc no)
@@ -248,7 +231,7 @@ module _ (added : List Pp) (old new : State) (sound : IsSound old) (began : IsSe
       owned = owned;
       tickets = subst HaveTickets (sym flying) tt;
       queue = rows ∙ sym (of_copy (λ (c : OpenCopy). if has_step_row core c then with_row (step_row core c) (waiting_rows core.requests) else waiting_rows core.requests) (waiting_rows core.requests) ∙ ap waiting_rows requests);
-      pinned = λ lv group. ap (λ (c : Cached). pins_of c.entries lv group) cache ∙ old_going.pinned lv group ∙ ap (count_by (pins lv group)) began.quiet.requests ∙ sym (ap (count_by (pins lv group)) requests);
+      pinned = λ lv group. ap (λ (es : List CacheEntry). pins_of es lv group) goes.entries ∙ old_going.pinned lv group ∙ ap (count_by (pins lv group)) began.quiet.requests ∙ sym (ap (count_by (pins lv group)) requests);
       requests = all_of_none (IsOpenOne core) core.requests requests;
       copy = if_none (IsCopy core) core.copy copy;
       hands = λ n. let none = hands n in omega (arith, none);
@@ -270,9 +253,7 @@ module _ (added : List Pp) (old new : State) (sound : IsSound old) (began : IsSe
     -- ---- its members
 
     placed : ArePlaced new.device.sizes core.descriptor t
-    placed row among there =
-        subst (λ (sizes : List ℕ). IsPlaced sizes core.descriptor.mib row) (sym goes.sizes) (subst (λ (n : ℕ). IsPlaced old.device.sizes n row) (sym goes.partitions)
-        (sound.placed row (subst (λ (rs : List PvRow). Contains rs row) goes.members among) (was_there row.disk there)))
+    placed row among there = goes.placed row among (was_there row.disk there)
 
     votes : is_enough_to_write core.descriptor (votes_in core.descriptor (members_there core.descriptor t)) ≡ true
     votes = enough_more core.descriptor (votes_in core.descriptor (is_there new.core)) (votes_in core.descriptor (members_there core.descriptor t))
@@ -294,35 +275,22 @@ module _ (added : List Pp) (old new : State) (sound : IsSound old) (began : IsSe
 
     -- ---- why they are missing, and copies stale
 
-    since : (disk : ℕ) → FailedSince old disk → FailedSince s disk
-    since disk failed = subst (λ (n : ℕ). Rose n (new.device.counts.faults disk)) (sym (at_first disk)) (rose_after failed (goes.falls.faults disk))
-
     lost : (disk : ℕ) → is_missing core disk ≡ true → (calls_missing t disk ≡ true) ⊎ FailedSince s disk
-    lost disk gone = by (is_missing old.core disk) refl
-      where
-        by : (b : Bool) → is_missing old.core disk ≡ b → (calls_missing t disk ≡ true) ⊎ FailedSince s disk
-        by true was = ⊎_elim (λ (at : calls_missing old.core.origin.table disk ≡ true). inl (missing_first disk at)) (λ (failed : FailedSince old disk). inr (since disk failed)) (sound.origin.missing disk was)
-        by false was = inr (subst (λ (n : ℕ). Rose n (new.device.counts.faults disk)) (sym (at_first disk)) (rose_before (sound.origin.since disk) (goes.lost disk gone was)))
+    lost disk gone = ⊎_elim (λ (at : IsTrue (calls_missing new.core.origin.table disk)). inl (was disk at)) (λ (failed : FailedSince new disk). inr failed) (goes.missing disk gone)
 
     why_stale : (p : Pp) → is_wanted_stale new.core p ≡ true → (calls_stale t p ≡ true) ⊎ (is_missing core p.disk ≡ true) ⊎ FailedSince s p.disk
     why_stale p now = ⊎_elim
-        (λ (was : IsTrue (is_wanted_stale old.core p)). ⊎_elim
-        (λ (at : calls_stale old.core.origin.table p ≡ true). inl (stale_as p ∙ ap (λ (b : Bool). b || is_among added p) at))
-        (λ (rest : (is_missing old.core p.disk ≡ true) ⊎ FailedSince old p.disk). inr (⊎_elim (λ (gone : is_missing old.core p.disk ≡ true). inl (goes.stays p.disk gone)) (λ (failed : FailedSince old p.disk). inr (since p.disk failed)) rest))
-        (sound.origin.stale p (or_right (is_held_stale old.core p) (is_wanted_stale old.core p) was)))
-        (λ (rest : IsTrue (is_among added p) ⊎ IsTrue (is_missing new.core p.disk)). ⊎_elim
-        (λ (one : IsTrue (is_among added p)). inl (stale_as p ∙ or_right (calls_stale old.core.origin.table p) (is_among added p) one))
-        (λ (gone : IsTrue (is_missing new.core p.disk)). inr (inl gone)) rest)
-        (goes.further p now)
+        (λ (at : IsTrue (calls_stale new.core.origin.table p)). inl (stale p ∙ or_left (calls_stale new.core.origin.table p) (is_among added p) at))
+        (λ (rest : IsTrue (is_among added p) ⊎ IsTrue (is_missing new.core p.disk) ⊎ FailedSince new p.disk). ⊎_elim
+        (λ (one : IsTrue (is_among added p)). inl (stale p ∙ or_right (calls_stale new.core.origin.table p) (is_among added p) one))
+        (λ (why : IsTrue (is_missing new.core p.disk) ⊎ FailedSince new p.disk). inr why) rest)
+        (goes.stale p now)
 
     true_to_origin : IsTrueToOrigin s
     true_to_origin = record {
-      since = λ disk.
-          let was : faults_at_first old.core disk ≤ old.device.counts.faults disk = sound.origin.since disk in
-          let later : old.device.counts.faults disk ≤ new.device.counts.faults disk = goes.falls.faults disk in
-          subst (λ (n : ℕ). n ≤ new.device.counts.faults disk) (sym (at_first disk)) (omega (arith, was, later));
+      since = goes.since;
       votes = votes;
-      rows = λ disk. same_rows disk ∙ ap (λ (o : Origin). has_row o.table disk) origin ∙ sound.origin.rows disk ∙ sym (ap (λ (rows : List PvRow). list_any (λ (row : PvRow). row.disk == disk) rows) goes.members);
+      rows = λ disk. same_rows disk ∙ goes.rows disk;
       still_missing = missing_now;
       missing = lost;
       stale = λ p held. why_stale p (by (is_held_stale new.core p) (is_wanted_stale new.core p) (held_as p) held);
@@ -370,8 +338,73 @@ module _ (added : List Pp) (old new : State) (sound : IsSound old) (began : IsSe
       or_none true = refl
       or_none false = refl
 
-pub commands_serve : CommandsServe
-commands_serve added old new sound began settled goes = (
+pub other_members_serve : OtherMembersServe
+other_members_serve added old new sound began settled goes = (
   (λ between. served_is_sound added old new sound began (record { sound = between; settled = settled }) goes),
   (λ nothing between. stays_sound added old new sound began (record { sound = between; settled = settled }) goes nothing),
 )
+
+-- ---- with its members as they were
+
+module _ (added : List Pp) (old new : State) (sound : IsSound old) (goes : GoesOnWith added old new) where
+  origin : new.core.origin ≡ old.core.origin
+  origin = ap (λ (c : Core). c.origin) goes.is
+
+  at_first : (disk : ℕ) → faults_at_first new.core disk ≡ faults_at_first old.core disk
+  at_first disk = ap (λ (o : Origin). slice_index_or o.faults disk 0) origin
+
+  stale_first : (p : Pp) → calls_stale new.core.origin.table p ≡ calls_stale old.core.origin.table p
+  stale_first p = ap (λ (o : Origin). calls_stale o.table p) origin
+
+  same_first : (disk : ℕ) → calls_missing new.core.origin.table disk ≡ calls_missing old.core.origin.table disk
+  same_first disk = ap (λ (o : Origin). calls_missing o.table disk) origin
+
+  since : (disk : ℕ) → FailedSince old disk → FailedSince new disk
+  since disk failed = subst (λ (n : ℕ). Rose n (new.device.counts.faults disk)) (sym (at_first disk)) (rose_after failed (goes.falls.faults disk))
+
+  lost_since : (disk : ℕ) → IsTrue (is_missing new.core disk) → IsTrue (calls_missing new.core.origin.table disk) ⊎ FailedSince new disk
+  lost_since disk gone = by (is_missing old.core disk) refl
+    where
+      by : (b : Bool) → is_missing old.core disk ≡ b → (calls_missing new.core.origin.table disk ≡ true) ⊎ FailedSince new disk
+      by true was = ⊎_elim (λ (at : calls_missing old.core.origin.table disk ≡ true). inl (same_first disk ∙ at)) (λ (failed : FailedSince old disk). inr (since disk failed)) (sound.origin.missing disk was)
+      by false was = inr (subst (λ (n : ℕ). Rose n (new.device.counts.faults disk)) (sym (at_first disk)) (rose_before (sound.origin.since disk) (goes.lost disk gone was)))
+
+  abbrev Why : Pp → Type 0
+  Why p = IsTrue (calls_stale new.core.origin.table p) ⊎ IsTrue (is_among added p) ⊎ IsTrue (is_missing new.core p.disk) ⊎ FailedSince new p.disk
+
+  stale_since : (p : Pp) → IsTrue (is_wanted_stale new.core p) → Why p
+  stale_since p now = ⊎_elim by_old (λ (rest : IsTrue (is_among added p) ⊎ IsTrue (is_missing new.core p.disk)). inr (⊎_elim (λ (one : IsTrue (is_among added p)). inl one) (λ (gone : IsTrue (is_missing new.core p.disk)). inr (inl gone)) rest)) (goes.further p now)
+    where
+      by_old : IsTrue (is_wanted_stale old.core p) → Why p
+      by_old was = ⊎_elim
+          (λ (at : calls_stale old.core.origin.table p ≡ true). inl (stale_first p ∙ at))
+          (λ (rest : (is_missing old.core p.disk ≡ true) ⊎ FailedSince old p.disk). inr (inr (⊎_elim (λ (gone : is_missing old.core p.disk ≡ true). inl (goes.stays p.disk gone)) (λ (failed : FailedSince old p.disk). inr (since p.disk failed)) rest)))
+          (sound.origin.stale p (or_right (is_held_stale old.core p) (is_wanted_stale old.core p) was))
+
+  placed_as : ArePlaced new.device.sizes new.core.descriptor new.core.origin.table
+  placed_as row among there =
+      subst (λ (sizes : List ℕ). IsPlaced sizes new.core.descriptor.mib row) (sym goes.sizes) (subst (λ (n : ℕ). IsPlaced old.device.sizes n row) (sym goes.partitions)
+      (sound.placed row (subst (λ (rs : List PvRow). Contains rs row) goes.members among) (sym (same_first row.disk) ∙ there)))
+
+  pub goes_on_from : GoesOnFrom added old new
+  goes_on_from = record {
+    is = goes.is ∙ ap (λ (c : Core). record old.core { descriptor = new.core.descriptor; cache = c.cache; origin = c.origin; history = new.core.history; last = new.core.last; status = new.core.status; homes = new.core.homes }) (sym goes.is);
+    entries = ap (λ (c : Core). c.cache.entries) goes.is;
+    placed = placed_as;
+    rows = λ disk. ap (λ (o : Origin). has_row o.table disk) origin ∙ sound.origin.rows disk ∙ sym (ap (λ (rows : List PvRow). list_any (λ (row : PvRow). row.disk == disk) rows) goes.members);
+    ordered = goes.ordered;
+    room = goes.room;
+    numbers = goes.numbers;
+    left = goes.left;
+    since = λ disk.
+        let was : faults_at_first old.core disk ≤ old.device.counts.faults disk = sound.origin.since disk in
+        let later : old.device.counts.faults disk ≤ new.device.counts.faults disk = goes.falls.faults disk in
+        subst (λ (n : ℕ). n ≤ new.device.counts.faults disk) (sym (at_first disk)) (omega (arith, was, later));
+    still_missing = λ disk gone. goes.stays disk (sound.origin.still_missing disk (sym (same_first disk) ∙ gone));
+    missing = lost_since;
+    stale = stale_since;
+    fresh = λ lv lp p one first apart. goes.fresh lv lp p one (sym (stale_first p) ∙ first) apart;
+  }
+
+pub commands_serve : CommandsServe
+commands_serve added old new sound began settled goes = other_members_serve added old new sound began settled (goes_on_from added old new sound goes)

@@ -147,7 +147,7 @@ module _ (s : State) (sound : IsSound s) (on : s.core.power ≡ power.On) (c : O
   bring = copy_stepped core now.core c (step.Reading source) c.tried c.end refl (same_next core) its tt (λ e. (parts core c may).1) (λ e. refl)
       its.tried
       (found.2, is_false (is_pp source c.pp) (both (not (is_pp source c.pp)) (is_usable core source) found.1).0, is_false (has c.tried source.disk) found.0)
-      (λ runs busy. short core c may) (kind_still core now.core c (step.Reading source) c.tried c.end refl refl refl (λ goes. goes) c.moves its.kind)
+      (λ runs busy. short core c may) (kind_still core now.core c (step.Reading source) c.tried c.end refl refl refl refl c.moves its.kind)
 
   -- ---- whose it is
 

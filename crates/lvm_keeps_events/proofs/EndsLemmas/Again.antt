@@ -68,7 +68,7 @@ module _ (s : State) (sound : IsSound s) (on : s.core.power ≡ power.On) (c : O
 
   bring : IsCopy now.core resting
   bring = copy_stepped core now.core c step.Idle tried c.end refl (same_next core) its tt (λ e. absurd (let no : true ≡ false = e in cc)) (λ e. refl)
-      tries tt (λ goes still. absurd (let no : true ≡ false = still in cc)) (kind_still core now.core c step.Idle tried c.end refl refl refl (λ goes. goes) c.moves its.kind)
+      tries tt (λ goes still. absurd (let no : true ≡ false = still in cc)) (kind_still core now.core c step.Idle tried c.end refl refl refl refl c.moves its.kind)
 
   -- ---- its place and its end
 

@@ -56,7 +56,7 @@ pub copy_quit_keeps : CopyQuitKeeps
 copy_quit_keeps at ok old new sound on event =
     subst IsSound (sym (ap (λ (d : Device). state d new.core) ended.is ∙ ap (λ (k : Core). state (record old.device { media = new.device.media; flights = new.device.flights; counts = new.device.counts }) k) event.is
     ∙ ap (λ (fs : List Flight). state (record old.device { media = new.device.media; flights = fs; counts = new.device.counts }) made) out.left_is))
-    (keeps between sound_between on c event.is_open c.tried c.end event.over not_clearing its.tried why at event.row event.returns.there event.own ended.flight out.there event.buf ended.number)
+    (keeps between sound_between on c event.is_open c.tried c.end event.over (λ moves move. move.ends) not_clearing its.tried why at event.row event.returns.there event.own ended.flight out.there event.buf ended.number)
   where
     c : OpenCopy
     c = event.copy

@@ -63,7 +63,7 @@ module _ (s : State) (sound : IsSound s) (on : s.core.power ≡ power.On) (c : O
 
   bring : IsCopy now.core holding
   bring = copy_stepped core now.core c (step.Read buf) c.tried c.end refl (same_next core) its long (λ e. its.free (ap is_idle reads))
-      (λ e. not_so (sym e ∙ runs)) its.tried tt (λ goes busy. short) (kind_still core now.core c (step.Read buf) c.tried c.end refl refl refl (λ goes. goes) c.moves its.kind)
+      (λ e. not_so (sym e ∙ runs)) its.tried tt (λ goes busy. short) (kind_still core now.core c (step.Read buf) c.tried c.end refl refl refl refl c.moves its.kind)
 
   -- ---- its place and its end
 

@@ -21,6 +21,7 @@ use Rattle.lvm_session.specs.Bringing.{copy_ends, hand_of, is_held_stale, is_don
 use Rattle.lvm_session.specs.Owners.{IsStepOf}
 use Rattle.lvm_session.specs.Causes.{HaveSourcesFailed, IsCausedAmong, faults_at_opening, FailedSinceOpening}
 use Rattle.lvm_session.specs.Sound.{IsCopy, IsGoing, IsSound, is_clearing, IsReadFrom}
+use Rattle.lvm_keeps.proofs.RequestsLemmas.{never_done}
 use Rattle.lvm_keeps.proofs.Small.{both}
 use Rattle.lvm_keeps_events.specs.Ends.{CopyReadFailKeeps}
 use Rattle.lvm_keeps_events.proofs.EndsLemmas.Counts.{counts_keep, rose_since}
@@ -230,7 +231,7 @@ copy_read_fail_keeps at old new sound on event = by_end (copy_ends mid) refl new
     by_end (Some how) ends core_is =
         subst IsSound (sym (ap (λ (d : Device). state d new.core) ended.is ∙ ap (λ (k : Core). state (record old.device { media = new.device.media; flights = new.device.flights; counts = new.device.counts }) k) core_is
         ∙ ap (λ (fs : List Flight). state (record old.device { media = new.device.media; flights = fs; counts = new.device.counts }) (after_copy_end mid resting how)) out.left_is))
-        (keeps_over between sound_between on c event.is_open tried (Some how) refl not_clearing tries why at event.row event.returns.there event.own ended.flight out.there event.buf ended.number)
+        (keeps_over between sound_between on c event.is_open tried (Some how) refl (λ moves move done. never_done mid resting moves (ends ∙ done)) not_clearing tries why at event.row event.returns.there event.own ended.flight out.there event.buf ended.number)
       where
         not_clearing : (p : Pp) → is_clearing old.core p ≡ false
         not_clearing p = ap (λ m. option_map_or (λ (k : OpenCopy). is_running k && is_whole old.core k && is_pp p k.pp) m false) event.is_open ∙ ap (λ b. is_running c && b && is_pp p c.pp) short ∙ none_both (is_running c) (is_pp p c.pp)

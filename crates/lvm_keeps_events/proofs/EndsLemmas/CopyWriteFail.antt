@@ -46,7 +46,7 @@ pub copy_write_fail_keeps : CopyWriteFailKeeps
 copy_write_fail_keeps at old new sound on event =
     subst IsSound (sym (ap (λ (d : Device). state d new.core) ended.is ∙ ap (λ (k : Core). state (record old.device { media = new.device.media; flights = new.device.flights; counts = new.device.counts }) k) core_is
     ∙ ap (λ (fs : List Flight). state (record old.device { media = new.device.media; flights = fs; counts = new.device.counts }) made) out.left_is))
-    (keeps between sound_between on c event.is_open c.tried (Some ending.SyncFailed) refl not_clearing its.tried why at event.row event.returns.there event.own ended.flight out.there event.buf ended.number)
+    (keeps between sound_between on c event.is_open c.tried (Some ending.SyncFailed) refl (λ moves move failed. let not_done : Some ending.SyncFailed ≡ Some ending.Done = failed in cc) not_clearing its.tried why at event.row event.returns.there event.own ended.flight out.there event.buf ended.number)
   where
     c : OpenCopy
     c = event.copy

@@ -171,7 +171,7 @@ module _ (s : State) (sound : IsSound s) (on : s.core.power ≡ power.On) (disk 
   told = told_still core now.core refl sound.told
 
   bring : (c : OpenCopy) → IsCopy core c → IsCopy now.core c
-  bring c k = record { row = k.row; volume = k.volume; lp = k.lp; kind = kind_still core now.core c c.step c.tried c.end refl refl refl (λ goes. goes) c.moves k.kind; cursor = k.cursor; faults = k.faults; place = k.place; room = k.room; free = k.free; hand = k.hand; tried = k.tried; source = k.source; under_way = k.under_way }
+  bring c k = record { row = k.row; volume = k.volume; lp = k.lp; kind = kind_still core now.core c c.step c.tried c.end refl refl refl refl c.moves k.kind; cursor = k.cursor; faults = k.faults; place = k.place; room = k.room; free = k.free; hand = k.hand; tried = k.tried; source = k.source; under_way = k.under_way }
 
   -- ---- whose the others are
 

@@ -246,7 +246,7 @@ module _ (core : Core) (going : IsGoing core) (place target : ℕ) (o : Open) (t
     pub fails : AllByRecursion (IsChosenSince core c) core.requests
         → IsEntailed core x ok aim.pp (queue core going c is ending.SyncFailed) (Some (with_copy_end c ending.SyncFailed)) (pool core going c is ending.SyncFailed) (λ q. is_among (due_of core x.request) q || marked q)
     fails chosen = record {
-      left = leaves core going c is ending.SyncFailed;
+      left = leaves core going c is ending.SyncFailed (λ moves done. let not_done : ending.SyncFailed ≡ ending.Done = done in cc);
       wants = λ q e. ap (λ b. b || marked q) e;
       due_is = λ q e. by q (either (is_among (due_of core x.request) q) (marked q) e);
       apart = λ k same runs whole. not_so (sym (gone k same) ∙ runs);

@@ -658,6 +658,7 @@ module _ (s : State) (sound : IsSound s) (on : s.core.power ≡ power.On) (c : O
       called = k.called;
       clear = λ goes whole. clear_at whole;
       fresh = any_among (stays_fresh after) (stays_fresh core) (copies_in core.descriptor c.lv c.lp) (stays_same c.lv c.lp) ∙ k.fresh;
+      ends = k.ends;
     }
 
     bring : IsCopy after next

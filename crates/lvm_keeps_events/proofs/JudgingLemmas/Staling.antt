@@ -244,7 +244,7 @@ module _ (core : Core) (due : Pp → Bool) (wanted : Status) (writes : Writes) (
         λ runs short. let was = is.stale runs short in (was.0, wanted_more c.pp was.1),
         λ runs whole. let was = is.clearing runs whole in (was.0, like.stale c.pp ∙ ap (λ b. b || due c.pp) was.1 ∙ apart runs whole),
       ))
-      (λ is. (λ runs whole. like.stale c.pp ∙ ap (λ b. b || due c.pp) (is.clear runs whole) ∙ apart runs whole, keeps_fresh (copies_in core.descriptor c.lv c.lp) (fresh c.lv c.lp) is.fresh)) c.moves k.kind)
+      (λ is. (λ runs whole. like.stale c.pp ∙ ap (λ b. b || due c.pp) (is.clear runs whole) ∙ apart runs whole, keeps_fresh (copies_in core.descriptor c.lv c.lp) (fresh c.lv c.lp) is.fresh)) c.moves (λ moves move. move.ends) k.kind)
 
   sources_same : (c : OpenCopy) → sources_of staler c ≡ sources_of core c
   sources_same c = filter_alike (λ (p : Pp). not (is_pp p c.pp) && is_usable staler p) (λ (p : Pp). not (is_pp p c.pp) && is_usable core p) (λ p. ap (λ b. not (is_pp p c.pp) && b) (usable_same p)) (copies_in core.descriptor c.lv c.lp)

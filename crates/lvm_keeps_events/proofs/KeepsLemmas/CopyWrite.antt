@@ -82,7 +82,7 @@ module _ (s : State) (sound : IsSound s) (on : s.core.power ≡ power.On) (c : O
 
   bring : IsCopy now.core writing
   bring = copy_stepped core now.core c step.Writing c.tried c.end refl (same_next core) its tt (λ e. its.free (ap is_idle in_hand)) (λ e. refl)
-      its.tried tt (λ goes busy. short) (kind_still core now.core c step.Writing c.tried c.end refl refl refl (λ goes. goes) c.moves its.kind)
+      its.tried tt (λ goes busy. short) (kind_still core now.core c step.Writing c.tried c.end refl refl refl refl c.moves its.kind)
 
   -- ---- whose it is
 

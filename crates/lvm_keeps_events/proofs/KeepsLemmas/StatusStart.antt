@@ -240,7 +240,7 @@ module _ (s : State) (sound : IsSound s) (on : s.core.power ≡ power.On) (disk 
             both (is_settled now.core c.pp) (is_wanted_stale core c.pp) (sym (settled_on c.pp) ∙ ap (λ b. b && is_wanted_stale core c.pp) both_stale.0 ∙ both_stale.1),
         is.clearing,
       ))
-      (λ is. (is.clear, any_on (stays_fresh core) (stays_fresh now.core) (λ p e. sym (stays p) ∙ e) (copies_in core.descriptor c.lv c.lp) is.fresh)) c.moves k.kind)
+      (λ is. (is.clear, any_on (stays_fresh core) (stays_fresh now.core) (λ p e. sym (stays p) ∙ e) (copies_in core.descriptor c.lv c.lp) is.fresh)) c.moves (λ moves move. move.ends) k.kind)
 
   -- ---- whose it is
 

@@ -17,6 +17,7 @@ use Rattle.lvm_session.specs.Bringing.{step_place}
 use Rattle.lvm_session.specs.Marks.{is_among}
 use Rattle.lvm_session.specs.Calls.{OpensMove, copy_at, faults_of, move_fault, opened}
 use Rattle.lvm_session.specs.Causes.{faults_at_first}
+use Rattle.lvm_session.specs.declared.bringing.CopyEnd.TheVariants as ending
 use Rattle.lvm_session.specs.Sound.{IsMove, IsSound, may_be_fresh}
 use Rattle.lvm_calls.specs.Opening.{counts_seen}
 use Rattle.lvm_calls.proofs.OpeningLemmas.{copies_are}
@@ -98,6 +99,7 @@ module _ (s : State) (new : Core) (lv lp number : ℕ) (to : Pp) (counts : Count
     clear = λ runs whole. not_so (sym (not_whole s.core sound.fitting) ∙ whole);
     fresh = (sound_called.on it.on).going.fresh lv lp (any_on (λ (q : Pp). not (is_pp q to) && is_usable called.core q) (may_be_fresh called.core) (usable_may called.core to) (copies_in s.core.descriptor lv lp)
         (ap (list_any (λ (q : Pp). not (is_pp q to) && is_usable s.core q)) copies ∙ other));
+    ends = λ e. let none : None ≡ Some ending.Done = e in cc;
   }
 
   low_called : (disk : ℕ) → faults_at_first called.core disk ≤ counts.faults disk

@@ -300,7 +300,7 @@ module _ (s : State) (sound : IsSound s) (on : s.core.power ≡ power.On) (none 
     row = row;
     volume = volume;
     lp = within;
-    kind = kind_still core now.core c c.step c.tried c.end refl refl refl (λ goes. goes) moves kind;
+    kind = kind_still core now.core c c.step c.tried c.end refl refl refl refl moves kind;
     cursor = omega arith;
     faults = four counts (copies_of row lp) pp;
     place = before (next_id core.history) (omega arith);

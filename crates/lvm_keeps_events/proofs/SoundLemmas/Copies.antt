@@ -38,7 +38,7 @@ use Rattle.lvm_session.proofs.MovesLemmas.{places_by}
 use Rattle.lvm_keeps.proofs.KeepsLemmas.Landing.{or_parts}
 use Rattle.lvm_keeps.proofs.DarkLemmas.Ending.{back, back_long}
 use Rattle.lvm_keeps.proofs.Small.{both, is_false}
-use Rattle.lvm_keeps.proofs.RequestsLemmas.{copy_stepped, kind_over, same_next, SamePlaces}
+use Rattle.lvm_keeps.proofs.RequestsLemmas.{copy_stepped, kind_over, never_done, same_next, SamePlaces}
 use Rattle.lvm_keeps_events.proofs.SoundLemmas.Over.{even_rows, none_filter, out_no_hand, without_step}
 use Rattle.lvm_keeps_events.proofs.JudgingLemmas.Review.{Clears, WriteEnd, Reviewed, and_of, due, flies_is, its_copy, left_behind, mid, missing_is, not_wanted, now, held_by, settled_on, stale_is, still_clear, to_be_cleared, uncleared, usable_is, wanted_on, fresh_from, place_stays}
 use Rattle.lvm_keeps_events.proofs.JudgingLemmas.DuesMarks.{own_pp}
@@ -139,6 +139,7 @@ module _ (e : WriteEnd) (status : Stored) (marks : WantsStale (due e) e.next sta
         called = it.called;
         clear = λ runs whole. still_clear e going_on c.pp (it.clear runs whole) (place_stays e c it) (ap (λ m. marked_by_end (mid e) m c.pp) still);
         fresh = fresh_from e going_on c.lv c.lp it.fresh;
+        ends = it.ends;
       }
 
   bring_all : IfSome core.copy (IsCopy after)
@@ -314,7 +315,7 @@ module _ (e : WriteEnd) (status : Stored) (marks : WantsStale (due e) e.next sta
   bring_over : IsCopy then_on ended
   bring_over = copy_stepped before then_on c at c.tried (Some how) refl (same_next before) k
       (subst (λ m. IfSome m (λ (buf : Buffer). length buf.sectors ≡ 256)) (sym its.hand) tt) (λ busy. ap not (its.free busy)) (λ over. its.hand)
-      k.tried (source_on at its.source) (λ goes busy. not_so goes) (kind_over before then_on c at c.tried (Some how) refl refl refl (fresh_from e at_end c.lv c.lp) c.moves k.kind)
+      k.tried (source_on at its.source) (λ goes busy. not_so goes) (kind_over before then_on c at c.tried (Some how) refl refl refl (fresh_from e at_end c.lv c.lp) c.moves (λ moves move done. never_done (mid e) c moves (its_end ∙ done)) k.kind)
 
   -- nothing is left to be cleared
   clear_over : (p : Pp) → is_held_stale then_on p ≡ true → is_wanted_stale then_on p ≡ false → is_clearing then_on p ≡ true

@@ -16,6 +16,7 @@ use Rattle.lvm_session.specs.Bringing.{hand_of, has_row, is_idle, is_out, is_who
 use Rattle.lvm_session.specs.Judging.{copies_in, group_in, held_of, is_caught, is_running, place_of}
 use Rattle.lvm_session.specs.State.{Core}
 use Rattle.lvm_session.specs.declared.bringing.CopyEnd.{CopyEnd}
+use Rattle.lvm_session.specs.declared.bringing.CopyEnd.TheVariants as ending
 use Rattle.lvm_session.specs.declared.bringing.OpenCopy.{OpenCopy}
 use Rattle.lvm_session.specs.declared.bringing.Step.{Step}
 use Rattle.lvm_session.specs.declared.bringing.Step.TheVariants as step
@@ -164,21 +165,25 @@ module _ (core : Core) (going : IsGoing core) (c : OpenCopy) (is : core.copy ≡
   step_on (step.Read buf) f of = absurd of
   step_on step.Writing f of = record { disk_is = of.disk_is; first = of.first; count = of.count; write_is = of.write_is }
 
-  bring_now : IsCopy now ended
-  bring_now = copy_stepped core now c ended.step c.tried (Some how) refl (same_next core) its
+  bring_now : (c.moves ≡ true → how ≡ ending.Done → ⊥) → IsCopy now ended
+  bring_now undone = copy_stepped core now c ended.step c.tried (Some how) refl (same_next core) its
       (subst (λ h. IfSome h (λ (buf : Buffer). length buf.sectors ≡ 256)) (sym (no_hand c.step)) tt)
       (λ busy. ap not (free_by c.place (step_of core c) (is_out c.step) (is_false (is_blocked core.queue.rows c.place (step_of core c)) (its.free (idle_back c.step busy)))))
       (λ e. no_hand c.step) its.tried (source_on c.step (copies_in core.descriptor c.lv c.lp) its.source) (λ runs busy. not_so runs)
-      (kind_over core now c ended.step c.tried (Some how) refl refl refl (λ e. e) c.moves its.kind)
+      (kind_over core now c ended.step c.tried (Some how) refl refl refl (λ e. e) c.moves (λ moves move done. undone moves (cc done)) its.kind)
 
-  pub leaves : LeavesParts core queue (Some ended) pool
-  leaves = record {
+  -- a request beside it stays, however it ends
+  pub one_ended : (x : Open) → IsOpenOne core x → IsOpenOne now x
+  one_ended x it = open_on core core.history core.requests queue (Some ended) pool core.flying core.cache.entries core.last x (free_by (place_of x.request.id) (held_of x.request.ask) (is_out c.step)) (λ p e. refl) (λ ask. ap (places_by core ask) is) it
+
+  pub leaves : (c.moves ≡ true → how ≡ ending.Done → ⊥) → LeavesParts core queue (Some ended) pool
+  leaves undone = record {
     room = room_by (is_out c.step);
     long = back_long core.pool (hand_of c.step);
     free = λ place ask e. free_by place ask (is_out c.step) e;
     caught = λ group p e. refl;
     places = λ ask. ap (places_by core ask) is;
-    bring = bring_now;
+    bring = bring_now undone;
     rows = rows_are;
     out = out_same c.step ∙ sym (of_copy (λ (k : OpenCopy). is_out k.step) false);
     steps = λ f of. (ended, refl, step_on c.step f (subst (λ (k : OpenCopy). IsStepOf k.step core k f) (let e : Some of.0 ≡ Some c = sym of.1 ∙ is in cc e) of.2));

@@ -32,7 +32,7 @@ use Rattle.lvm_session.specs.Left.{copy_updates, if_so}
 use Rattle.lvm_session.specs.Owners.{flies}
 use Rattle.lvm_session.specs.Requests.{IsOpenOne}
 use Rattle.lvm_session.specs.Causes.{IsCausedAmong}
-use Rattle.lvm_session.specs.Sound.{IsCopy, IsGoing, IsSound, count_if, is_clearing, is_hand, waiting_rows, with_row}
+use Rattle.lvm_session.specs.Sound.{IsCopy, IsGoing, IsMove, IsSound, count_if, is_clearing, is_hand, waiting_rows, with_row}
 use Rattle.lvm_session.proofs.MovesLemmas.{places_by}
 use Rattle.lvm_keeps.proofs.RequestsLemmas.{changed, open_on, copy_stepped, kind_over, same_next}
 use Rattle.lvm_keeps_events.proofs.SoundLemmas.CopyEnded.{session_still}
@@ -81,7 +81,7 @@ out_no_hand (step.Read buf) e = not_so e
 out_no_hand step.Writing e = refl
 
 -- The copy has ended with it, or had: these were tried for its track group, and so it ended; and it isn't to be cleared.
-module _ (s : State) (sound : IsSound s) (on : s.core.power ≡ power.On) (c : OpenCopy) (is : s.core.copy ≡ Some c) (tried : ℕ) (end : Option CopyEnd) (over : is_none end ≡ false) (clear : (p : Pp) → is_clearing s.core p ≡ false)
+module _ (s : State) (sound : IsSound s) (on : s.core.power ≡ power.On) (c : OpenCopy) (is : s.core.copy ≡ Some c) (tried : ℕ) (end : Option CopyEnd) (over : is_none end ≡ false) (undone : c.moves ≡ true → IsMove s.core c → end ≡ Some ending.Done → ⊥) (clear : (p : Pp) → is_clearing s.core p ≡ false)
     (tries : (disk : ℕ) → has tried disk ≡ true → list_any (λ (p : Pp). not (is_pp p c.pp) && p.disk == disk) (copies_in s.core.descriptor c.lv c.lp) ≡ true)
     (why : IsCausedAmong s (copies_in s.core.descriptor c.lv c.lp) (record c { step = step.Idle; tried = tried; end = end }))
     (at : ℕ) (row : Flown) (there : slice_get s.core.flying at ≡ Some row) (own : row.owner ≡ owner.Copy) (f : Flight) (f_there : slice_get s.device.flights at ≡ Some f) (buf : Buffer) (number : buf.number ≡ f.buf.number) where
@@ -125,7 +125,7 @@ module _ (s : State) (sound : IsSound s) (on : s.core.power ≡ power.On) (c : O
 
   bring : IsCopy now.core resting
   bring = copy_stepped core now.core c step.Idle tried end refl (same_next core) its tt (λ e. absurd (let no : true ≡ false = e in cc)) (λ e. refl)
-      tries tt (λ goes busy. absurd (let no : true ≡ false = busy in cc)) (kind_over core now.core c step.Idle tried end refl refl over (λ e. e) c.moves its.kind)
+      tries tt (λ goes busy. absurd (let no : true ≡ false = busy in cc)) (kind_over core now.core c step.Idle tried end refl refl over (λ e. e) c.moves undone its.kind)
 
   -- ---- its place and its end
 

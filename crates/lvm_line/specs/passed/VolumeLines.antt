@@ -5,3 +5,4 @@ pub use Rattle.lvm_volume_lines.specs.Copies.{AddsCopies, BusyMklvcopy, BusyRmlv
 pub use Rattle.lvm_volume_lines.specs.Resyncing.{IsSynced, NoGroupForSync, NoVolumeForSync, NothingSyncs, OtherGroupForSync, SyncGroupDoes, SyncVolumeDoes, SyncsGroup, SyncsVolume}
 pub use Rattle.lvm_volume_lines.specs.Splitting.{BusySplitlvcopy, NoGroupForSplitlvcopy, NoVolumeForSplitlvcopy, SplitlvcopyDoes, SplitlvcopyEnds, SplitlvcopyFails, SplitsVolume, UndrainedSplitlvcopy}
 pub use Rattle.lvm_volume_lines.specs.Volumes.{BusyMklv, BusyRmlv, Drains, IsDone, IsUndrained, MakesVolume, MklvDoes, MklvEnds, MklvFails, NoGroupForMklv, NoGroupForRmlv, NoVolumeForRmlv, RemovesVolume, RmlvDoes, RmlvEnds, RmlvFails, StaysOn, UndrainedMklv, UndrainedRmlv, refusal_for, wanted}
+pub use Rattle.lvm_volume_lines.specs.Sharing.{SharesSession}

@@ -2,7 +2,7 @@
 use Rattle.std.proofs.Common.{◌≡◌, ◌≤◌, ◌+◌, ℕ, Bool, true, false, Option, Some, None, sym, ◌∙◌, arith}
 use Rattle.std.specs.Prelude.{is_some}
 use Rattle.lvm_load.specs.declared.workload.Woven.{Woven}
-use Rattle.lvm_group_lines.specs.declared.reply.Refusal.{Refusal}
+use Rattle.lvm_line.specs.passed.GroupLines.{Refusal}
 use Rattle.lvm_line.specs.passed.ReplyVariants as reply
 use Rattle.lvm_top.specs.declared.script.Stop.{Stop}
 use Rattle.lvm_top.specs.declared.status.ExitStatus.{ExitStatus}

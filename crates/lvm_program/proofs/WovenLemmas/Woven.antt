@@ -24,7 +24,7 @@ use Rattle.lvm_posts.specs.declared.posts.Post.{Post}
 use Rattle.lvm_session.specs.declared.open.Power.TheVariants as power
 use Rattle.lvm_session.specs.Judging.{is_moving}
 use Rattle.lvm_session.specs.State.{Core, State, state}
-use Rattle.lvm_range_lines.proofs.EndsLemmas.{none_moves}
+use Rattle.lvm_line.proofs.passed.RangeLines.{none_moves}
 use Rattle.lvm_load.specs.declared.totals.Totals.{Totals}
 use Rattle.lvm_load.specs.declared.workload.Workload.{Workload}
 use Rattle.lvm_load.specs.declared.workload.Woven.{Woven}

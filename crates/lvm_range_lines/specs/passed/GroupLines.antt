@@ -1,5 +1,5 @@
 -- Passed on from `lvm_group_lines`.
-pub use Rattle.lvm_group_lines.specs.Asking.{Asks, IsAsked}
+pub use Rattle.lvm_group_lines.specs.Asking.{Asks, IsAsked, EndsSession}
 pub use Rattle.lvm_group_lines.specs.Disks.{NoReadWhileOn, NoWriteWhileOn, ReadDoes, ReadGoes, WriteDoes, WriteGoes, refusal_by}
 pub use Rattle.lvm_group_lines.specs.Ends.{CommandEnds, EndsUnasked, patience_of_line}
 pub use Rattle.lvm_group_lines.specs.Groups.{Brings, BusyVaryoff, IsLeftByCall, Makes, MkvgDoes, NoMemoryForLine, NoMkvgWhileOn, NoVaryoff, NoVaryonWhileOn, Varies, VariesOff, VaryoffDoes, VaryonDoes, asked_for, itself, outcome_of}

@@ -160,6 +160,7 @@ move = record {
     called = refl;
     clear = λ runs whole. not_so whole;
     fresh = refl;
+    ends = λ e. not_none e;
   };
   cursor = omega arith;
   faults = refl;

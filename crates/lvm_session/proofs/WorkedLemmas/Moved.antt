@@ -84,6 +84,7 @@ module _ (m : Mode) where
       called = refl;
       clear = λ runs whole. not_so whole;
       fresh = refl;
+      ends = λ e. not_none e;
     };
     cursor = omega arith;
     faults = refl;
@@ -177,6 +178,7 @@ module _ (m : Mode) where
       called = refl;
       clear = λ runs whole. refl;
       fresh = refl;
+      ends = λ e. not_none e;
     };
     cursor = omega arith;
     faults = refl;
@@ -279,6 +281,7 @@ module _ (m : Mode) where
       called = refl;
       clear = λ runs whole. not_so whole;
       fresh = refl;
+      ends = λ e. let failed_is : Some ending.SyncFailed ≡ Some ending.Done = e in cc;
     };
     cursor = omega arith;
     faults = refl;

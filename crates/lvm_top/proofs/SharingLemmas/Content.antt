@@ -44,14 +44,8 @@ use Rattle.lvm_core.specs.Settled.{IsSettled}
 use Rattle.lvm_tie.specs.Begins.{IsRested, IsCoreAtRest}
 use Rattle.lvm_tie.specs.Tied.{IsTied}
 use Rattle.lvm_tie.specs.Spares.{SparesDescriptors, SparesOn}
-use Rattle.lvm_tie_commands.specs.Sharing.{HoldTheSame, ShareContent}
-use Rattle.lvm_tie_commands.proofs.CommandsLemmas.Commands.{still_there}
-use Rattle.lvm_tie_commands.proofs.BeginsLemmas.{Held}
-use Rattle.lvm_tie_commands.proofs.CalmLemmas.{calm_since}
-use Rattle.lvm_tie_commands.proofs.CommandsLemmas.Records.{data_stays}
-use Rattle.lvm_tie_commands.proofs.CopiesLemmas.Sharing.{both_lists, holds_one}
-use Rattle.lvm_tie_commands.proofs.SettledLemmas.Leaving.{its_disks_hold, its_rest}
-use Rattle.lvm_tie_commands.proofs.Resting.{landed, rests}
+use Rattle.lvm_line.specs.passed.Splitting.{HoldTheSame, ShareContent}
+use Rattle.lvm_line.proofs.passed.TieCommands.{Held, both_lists, calm_since, data_stays, holds_one, its_disks_hold, its_rest, landed, rests, still_there}
 
 -- ---- behind the split
 

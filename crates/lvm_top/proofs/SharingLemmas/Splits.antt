@@ -23,8 +23,8 @@ use Rattle.lvm_core.specs.Looking.{IsNumberOf}
 use Rattle.lvm_session.specs.State.{Core, State, state, moment_of}
 use Rattle.lvm_tie.specs.Spares.{SparesDescriptors}
 use Rattle.lvm_tie.proofs.TiedLemmas.Tied.{good_upholds}
-use Rattle.lvm_tie_commands.specs.Sharing.{ShareContent}
-use Rattle.lvm_tie_commands.proofs.CopiesLemmas.Adding.{no_volume}
+use Rattle.lvm_line.specs.passed.Splitting.{ShareContent}
+use Rattle.lvm_line.proofs.passed.TieCommands.{no_volume}
 use Rattle.lvm_volume_plan.specs.Split.{kept_row, split_row}
 use Rattle.lvm_line.specs.passed.Tie.{IsGood, IsTied, StaysGood}
 use Rattle.lvm_line.specs.passed.TieCommands.{StandsAfter}

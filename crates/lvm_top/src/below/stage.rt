@@ -1,3 +1,3 @@
 //! Passed on from `lvm_group_lines`.
 
-pub use lvm_line::below::stage::{Holder, Reply, Stage, take_rooms};
+pub use lvm_line::below::stage::{Holder, Refusal, Reply, Stage, take_rooms};
