@@ -104,12 +104,7 @@ fn empty_reply<S: Shelf>(driver: &CommandDriver<S>, to: u16) -> Reply
 }
 
 // What a line is answered there.
-fn move_none<S: Shelf>(
-    driver: &CommandDriver<S>,
-    volume: Option<Name>,
-    from: u16,
-    to: u16,
-) -> Reply
+fn move_none<S: Shelf>(driver: &CommandDriver<S>, volume: Option<Name>, from: u16, to: u16) -> Reply
     ensures { EmptyAnswers driver.now.1 volume from to result }
 {
     match asked_for(driver.descriptor(), volume, from, to) {
