@@ -1,0 +1,3 @@
+pub mod AskingLemmas
+pub mod EmptyLemmas
+pub mod MovingLemmas
