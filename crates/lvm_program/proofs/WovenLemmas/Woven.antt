@@ -428,8 +428,8 @@ module _ (log : Log) (room : Room) (disks mib : ℕ) (sized : IsSized disks mib)
 
   -- its lines aren't refused for what the shelf did
   made_untroubled : (first : ScriptState) (answer : Reply) (last : ScriptState) → NothingCounted last.moment.device.counts → IsMade log room (mkvg_line disks) (mklv_line disks mib) first answer last → IsTroubled answer → ⊥
-  made_untroubled first answer last none (NoGroup not it) = untroubled log room (mkvg_line disks) first last none answer it
-  made_untroubled first answer last none (HasGroup mid makes it) = untroubled log room (mklv_line disks mib) mid last none answer it
+  made_untroubled first answer last none (NoGroup not it) troubled = has_its_votes _ answer first (λ name disks e. cc e) (subst (λ (read : Result (Option Command) Misfit). IsShortOfVotes read answer first) (group_reads disks sized.0 sized.1) (untroubled log room (mkvg_line disks) first last none answer it troubled))
+  made_untroubled first answer last none (HasGroup mid makes it) troubled = has_its_votes _ answer mid (λ name disks e. cc e) (subst (λ (read : Result (Option Command) Misfit). IsShortOfVotes read answer mid) (volume_reads disks mib sized) (untroubled log room (mklv_line disks mib) mid last none answer it troubled))
 
 ends_orders : (blocks : ℕ) (load : Workload) (answer : Reply) (run : ℕ) (end : Moment) (on : Option Core) (exit : Exit) → EndsWoven blocks load answer run end on exit → exit.moment.device.orders ≡ end.device.orders
 ends_orders blocks load answer run end on exit (NotMade not it) = concludes_orders run end exit.moment on it.concludes
