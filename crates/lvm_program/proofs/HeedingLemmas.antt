@@ -20,7 +20,7 @@ use Rattle.lvm_core.specs.declared.parts.Room.{Room}
 use Rattle.lvm_session.specs.declared.open.Power.{Power}
 use Rattle.lvm_session.specs.declared.open.Power.TheVariants as power
 use Rattle.lvm_session.specs.State.{Core}
-use Rattle.lvm_line.specs.Causes.{HasCause, HasFailedInSession, WereLost}
+use Rattle.lvm_line.specs.Causes.{HasCause, HasFailedInSession, LacksOnTheWay, WereLost}
 use Rattle.lvm_line.specs.Complete.{NothingFailed}
 use Rattle.lvm_line.specs.Lines.{IsLine, IsOrder, LineDoes, role_of}
 use Rattle.lvm_line.specs.Told.{NothingSince}
@@ -29,7 +29,7 @@ use Rattle.lvm_line.specs.passed.RefusalVariants as refusal
 use Rattle.lvm_line.specs.passed.ReplyVariants as reply
 use Rattle.lvm_top.specs.Ending.{Concludes, NoneIsOn, NoneIsServed, IsServed, NothingIsLeft, TurnsAreMade}
 use Rattle.lvm_top.proofs.passed.Tie.{path_frames}
-use Rattle.lvm_program.specs.Heeding.{AreHarmless, AreUntroubled, EndsHarmless, EndsUntroubled, GoesWell, IsHarm, IsHarmless, IsTroubled, IsUntroubled, RanHarmless, LinesOrderAlone, RunsHeedAlone, HarmlessRunsGoWell, HarmlessScriptsGoWell, ordered_after, ordered_behind, orders_of}
+use Rattle.lvm_program.specs.Heeding.{AreHarmless, AreUntroubled, EndsHarmless, EndsUntroubled, GoesWell, IsHarm, IsHarmless, IsShortOfVotes, IsTroubled, IsUntroubled, RanHarmless, LinesOrderAlone, RunsHeedAlone, HarmlessRunsGoWell, HarmlessScriptsGoWell, ordered_after, ordered_behind, orders_of}
 use Rattle.lvm_top.specs.Run.{Run, IsRun, RanAlone}
 use Rattle.lvm_top.specs.Script.{Script, NoLine, NextLine, StaysAlone, Ends, AtLine, InLine, EndsAlone, EndsStuck, empty_log, entry_state, facts_of}
 use Rattle.lvm_top.proofs.LawsLemmas.Scripts.{first_stands}
