@@ -17,7 +17,7 @@ use Rattle.lvm_kept.specs.Group.{IsOneOf}
 use Rattle.lvm_commit.proofs.AmongLemmas.{contains}
 use Rattle.lvm_core.specs.Committing.{is_in}
 use Rattle.lvm_status.specs.Table.{has_row}
-use Rattle.lvm_members.specs.Reducing.{reduced}
+use Rattle.lvm_reduce.specs.Descriptors.{reduced}
 
 -- ---- members
 
@@ -31,18 +31,15 @@ member_filtered : (disks : List ℕ) (rows : List PvRow) (disk : ℕ) → list_a
 member_filtered disks [] disk = refl
 member_filtered disks (row ∷ rows) disk = by (row.disk == disk) (not (is_in disks row.disk)) refl refl
   where
-    abbrev kept : List PvRow
-    kept = filter (stays disks) rows
-
-    rest : list_any (has disk) kept ≡ (list_any (has disk) rows && not (is_in disks disk))
+    rest : list_any (has disk) (filter (stays disks) rows) ≡ (list_any (has disk) rows && not (is_in disks disk))
     rest = member_filtered disks rows disk
 
-    by : (t k : Bool) → (row.disk == disk) ≡ t → not (is_in disks row.disk) ≡ k → list_any (has disk) (if k then row ∷ kept else kept) ≡ ((t || list_any (has disk) rows) && not (is_in disks disk))
-    by true true is keeps = ap (λ (b : Bool). b || list_any (has disk) kept) is ∙ sym (sym (ap (λ (d : ℕ). not (is_in disks d)) (eqb-true row.disk disk is)) ∙ keeps)
+    by : (t k : Bool) → (row.disk == disk) ≡ t → not (is_in disks row.disk) ≡ k → list_any (has disk) (if k then row ∷ (filter (stays disks) rows) else (filter (stays disks) rows)) ≡ ((t || list_any (has disk) rows) && not (is_in disks disk))
+    by true true is keeps = ap (λ (b : Bool). b || list_any (has disk) (filter (stays disks) rows)) is ∙ sym (sym (ap (λ (d : ℕ). not (is_in disks d)) (eqb-true row.disk disk is)) ∙ keeps)
     by true false is goes =
         let gone : not (is_in disks disk) ≡ false = sym (ap (λ (d : ℕ). not (is_in disks d)) (eqb-true row.disk disk is)) ∙ goes in
         rest ∙ ap (λ (b : Bool). list_any (has disk) rows && b) gone ∙ and_false (list_any (has disk) rows) ∙ sym gone
-    by false true isnt keeps = ap (λ (b : Bool). b || list_any (has disk) kept) isnt ∙ rest
+    by false true isnt keeps = ap (λ (b : Bool). b || list_any (has disk) (filter (stays disks) rows)) isnt ∙ rest
     by false false isnt goes = rest
 
 -- those that stay are members that don't leave
