@@ -1,12 +1,12 @@
 -- A session that disks have left is sound with requests.
 use Rattle.std.proofs.Common.{◌≡◌, ◌⊎◌, inl, inr, ⊎_elim, ℕ, ◌==◌, ◌-◌, ◌≤◌, ◌^◌, Bool, true, false, ◌&&◌, not, List, [], ◌∷◌, ◌++◌, length, Result, Ok, Err, refl, sym, ap, subst, ◌∙◌, arith}
-use Rattle.std.specs.Prelude.{IsTrue, IsFalse, Contains}
+use Rattle.std.specs.Prelude.{◌≢◌, AllPairs, IsTrue, IsFalse, Contains}
 use Rattle.std.proofs.lemmas.Bool.{or_right}
 use Rattle.lvm_num.specs.declared.descriptor.Descriptor.{Descriptor}
 use Rattle.lvm_num.specs.declared.descriptor.PvRow.{PvRow}
 use Rattle.lvm_num.specs.declared.descriptor.LvRow.{LvRow}
 use Rattle.lvm_num.specs.declared.place.Pp.{Pp}
-use Rattle.lvm_num.specs.Descriptor.{IsValid, is_member}
+use Rattle.lvm_num.specs.Descriptor.{IsValid, is_member, most_members}
 use Rattle.lvm_num.specs.Status.{calls_stale, calls_missing}
 use Rattle.lvm_num.proofs.Booleans.{second_with_first}
 use Rattle.lvm_disk.specs.Counts.{Rose}
@@ -46,14 +46,19 @@ use Rattle.lvm_handover.proofs.ServingLemmas.Volumes.{found, had_fresh, its_row,
 use Rattle.lvm_tie_commands.specs.Serving.{MayServeWith}
 use Rattle.lvm_tie_commands.proofs.ServingLemmas.More.{refused}
 use Rattle.lvm_member_laws.specs.Reducing.{IsReduced, ReduceServes}
-use Rattle.lvm_member_laws.proofs.Rows.{contained_is, kept_contained, missing_has_row, not_leaving, stale_has_row, was_member}
+use Rattle.lvm_member_laws.proofs.Rows.{contained_is, kept_contained, missing_has_row, named_are_few, not_leaving, stale_has_row, was_member}
+
+-- so many members a group has at most
+at_most_128 : (big : Bool) → most_members big ≤ 128
+at_most_128 true = omega arith
+at_most_128 false = omega arith
 
 -- an order of facts goes on over such entries
 ordered_removed : (disks : List ℕ) (log : Log) → Ordered log.run [] log.facts → Ordered (with_removed disks log).run [] (with_removed disks log).facts
 ordered_removed [] log ordered = ordered
 ordered_removed (x ∷ disks) log ordered = ordered_removed disks (with_fact log (Removed (Disk x))) (ordered-push log.run [] log.facts (Removed (Disk x)) ordered tt)
 
-module _ (disks : List ℕ) (before after : ℕ) (old new : State) (sound : IsSound old) (began : IsSettled old.core) (on : IsSettled new.core) (still : StillHeld old new) (keeps : KeepsFresh old new)
+module _ (disks : List ℕ) (differ : AllPairs (λ (a b : ℕ). a ≢ b) disks) (before after : ℕ) (old new : State) (sound : IsSound old) (began : IsSettled old.core) (on : IsSettled new.core) (still : StillHeld old new) (keeps : KeepsFresh old new)
     (leaves : ChangeLeaves (IsReducedBy disks old.core.descriptor) [] disks before after old new) (may : MayReduce disks old.core) (done : HasReduced disks old new) where
   abbrev was : Descriptor
   was = old.core.descriptor
@@ -153,10 +158,12 @@ module _ (disks : List ℕ) (before after : ℕ) (old new : State) (sound : IsSo
       numbers =
           let many = many_bound old.core sound.fitting.valid sound.fitting.group in
           let most = leaves.numbers.most in
-          let few : length disks ≤ 128 = may.free.few in
+          let few : length disks ≤ length was.pvs = named_are_few disks was.pvs differ may.free.members in
+          let all : length was.pvs ≤ most_members was.big = sound.fitting.valid.head.members in
+          let most_of : most_members was.big ≤ 128 = at_most_128 was.big in
           let left : 65536 ≤ 2 ^ 32 - 1 - old.core.status.stamp.seq = may.room.numbers in
           let updates : updates_left new.core ≤ 129 = few_updates new.core valid on.quiet.requests on.quiet.copy in
-          omega (arith, many, most, few, left, updates);
+          omega (arith, many, most, few, all, most_of, left, updates);
       left = still.left (none_before old sound began);
       since = λ d.
           let at : faults_at_first old.core d ≤ old.device.counts.faults d = sound.origin.since d in
@@ -175,7 +182,7 @@ module _ (disks : List ℕ) (before after : ℕ) (old new : State) (sound : IsSo
   )
 
 pub reduce_serves : ReduceServes
-reduce_serves disks before after old new (Ok done) sound c = reduced_serves disks before after old new sound c.began c.on c.still c.fresh c.leaves c.gives.0 c.gives.1
+reduce_serves disks before after old new (Ok done) sound c = reduced_serves disks c.differ before after old new sound c.began c.on c.still c.fresh c.leaves c.gives.0 c.gives.1
 reduce_serves disks before after old new (Err fault.Dark) sound c = tt
 reduce_serves disks before after old new (Err (fault.WentOff have total)) sound c = tt
 reduce_serves disks before after old new (Err fault.Stuck) sound c = tt
