@@ -17,7 +17,7 @@ use Rattle.lvm_kept.specs.Group.{IsOneOf}
 use Rattle.lvm_commit.proofs.AmongLemmas.{contains}
 use Rattle.lvm_core.specs.Committing.{is_in}
 use Rattle.lvm_status.specs.Table.{has_row}
-use Rattle.lvm_reduce.specs.Descriptors.{reduced}
+use Rattle.lvm_member_plan.specs.Descriptors.{reduced}
 
 -- ---- members
 

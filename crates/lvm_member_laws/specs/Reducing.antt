@@ -11,9 +11,9 @@ use Rattle.lvm_session.specs.Sound.{IsSound}
 use Rattle.lvm_volume_plan.specs.passed.Names.{MayBeFound, IsSettled}
 use Rattle.lvm_volumes.specs.Endings.{StillHeld, KeepsFresh}
 use Rattle.lvm_members.specs.passed.Names.{ChangeLeaves}
-use Rattle.lvm_reduce.specs.declared.fault.ReduceFault.{ReduceFault}
+use Rattle.lvm_member_plan.specs.declared.fault.ReduceFault.{ReduceFault}
 use Rattle.lvm_reduce.specs.Answers.{IfOn, ReduceGives}
-use Rattle.lvm_reduce.specs.Descriptors.{IsReducedBy, reduced}
+use Rattle.lvm_member_plan.specs.Descriptors.{IsReducedBy, reduced}
 use Rattle.lvm_tie_commands.specs.Commands.{MayBeCommanded, IsLeftStandingSince}
 use Rattle.lvm_tie_commands.specs.Serving.{MayServeWith}
 

@@ -5,10 +5,10 @@ use Rattle.lvm_disk.specs.Device.{Device}
 use Rattle.lvm_session.specs.State.{Core, State}
 use Rattle.lvm_core.specs.declared.fault.CommitFault.{CommitFault}
 use Rattle.lvm_core.specs.State.{state_of}
-use Rattle.lvm_reduce.specs.declared.fault.ReduceFault.{ReduceFault}
-use Rattle.lvm_reduce.specs.declared.fault.ReduceFault.TheVariants as fault
+use Rattle.lvm_member_plan.specs.declared.fault.ReduceFault.{ReduceFault}
+use Rattle.lvm_member_plan.specs.declared.fault.ReduceFault.TheVariants as fault
 use Rattle.lvm_reduce.specs.Answers.{ReduceGives, ends_session, is_over}
-use Rattle.lvm_reduce.specs.Descriptors.{IsReducedBy}
+use Rattle.lvm_member_plan.specs.Descriptors.{IsReducedBy}
 use Rattle.lvm_member_laws.specs.Reducing.{IsReduced}
 use Rattle.lvm_volume_lines.specs.passed.Names.{Post}
 use Rattle.lvm_volume_lines.specs.passed.GroupLines.{IsNotOn, IsOn, IsRefused, open_in, ScriptState, Refusal, Reply, Stage}

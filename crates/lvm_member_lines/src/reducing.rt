@@ -12,9 +12,10 @@ ghost use Rattle.lvm_member_lines.specs.Reducing.{IsReduceCarriedOut, ReducevgDo
 
 use lvm_core::CommandDriver;
 use lvm_disk::Shelf;
-use lvm_members::{ReduceFault, Reduced, reducevg};
+use lvm_member_plan::ReduceFault;
 use lvm_num::Name;
 use lvm_range_lines::below::volumes::GroupFault;
+use lvm_reduce::{Reduced, reducevg};
 use lvm_transfer::Patience;
 use lvm_volume_lines::below::Post;
 use lvm_volume_lines::below::stage::{Answered, Refusal, Reply, Stage};

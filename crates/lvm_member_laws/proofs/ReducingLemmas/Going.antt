@@ -22,10 +22,10 @@ use Rattle.lvm_volume_plan.specs.passed.Names.{IsSettled}
 use Rattle.lvm_even.specs.Even.{IsEven}
 use Rattle.lvm_volumes.specs.Endings.{StillHeld}
 use Rattle.lvm_members.specs.passed.Names.{IsOfChange}
-use Rattle.lvm_reduce.specs.declared.fault.ReduceFault.{ReduceFault}
-use Rattle.lvm_reduce.specs.declared.fault.ReduceFault.TheVariants as fault
+use Rattle.lvm_member_plan.specs.declared.fault.ReduceFault.{ReduceFault}
+use Rattle.lvm_member_plan.specs.declared.fault.ReduceFault.TheVariants as fault
 use Rattle.lvm_reduce.specs.Answers.{HasReduced, IfOn, ReduceGives, is_over}
-use Rattle.lvm_reduce.specs.Descriptors.{IsReducedBy, reduced}
+use Rattle.lvm_member_plan.specs.Descriptors.{IsReducedBy, reduced}
 use Rattle.lvm_tie_commands.specs.Commands.{IsLeftStandingSince, MayBeCommanded}
 use Rattle.lvm_tie_commands.proofs.CommandsLemmas.Commands.{KeepsEven, KeepsEvenFor, LeavesStanding, keeps_even_for, left_standing_by, told_next}
 use Rattle.lvm_tie_commands.proofs.HeldLemmas.{holds_before}

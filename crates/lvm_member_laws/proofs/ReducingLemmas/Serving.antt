@@ -34,12 +34,12 @@ use Rattle.lvm_keeps.proofs.LeftLemmas.Updates.{few_updates}
 use Rattle.lvm_volumes.specs.Endings.{HasFresh, KeepsFresh, StillHeld}
 use Rattle.lvm_volumes.proofs.StagesLemmas.Entering.{many_bound}
 use Rattle.lvm_members.specs.passed.Names.{ChangeLeaves}
-use Rattle.lvm_reduce.specs.declared.fault.ReduceFault.{ReduceFault}
-use Rattle.lvm_reduce.specs.declared.fault.ReduceFault.TheVariants as fault
+use Rattle.lvm_member_plan.specs.declared.fault.ReduceFault.{ReduceFault}
+use Rattle.lvm_member_plan.specs.declared.fault.ReduceFault.TheVariants as fault
 use Rattle.lvm_reduce.specs.Answers.{HasReduced, IfOn}
-use Rattle.lvm_reduce.specs.Descriptors.{IsReducedBy, reduced}
-use Rattle.lvm_reduce.specs.Refusals.{MayReduce}
-use Rattle.lvm_reduce.specs.Steps.{with_removed}
+use Rattle.lvm_member_plan.specs.Descriptors.{IsReducedBy, reduced}
+use Rattle.lvm_member_plan.specs.Refusals.{MayReduce}
+use Rattle.lvm_reduce.specs.Answers.{with_removed}
 use Rattle.lvm_handover.specs.Serving.{GoesOnFrom}
 use Rattle.lvm_handover.proofs.ServingLemmas.Serving.{other_members_serve}
 use Rattle.lvm_handover.proofs.ServingLemmas.Volumes.{found, had_fresh, its_row, none_before}

@@ -1,7 +1,7 @@
 -- What the line does, by the answer of the command.
 use Rattle.std.proofs.Common.{◌≡◌, ℕ, List, Some, Result, Ok, Err, refl}
 use Rattle.lvm_session.specs.State.{Core, State}
-use Rattle.lvm_reduce.specs.declared.fault.ReduceFault.{ReduceFault}
+use Rattle.lvm_member_plan.specs.declared.fault.ReduceFault.{ReduceFault}
 use Rattle.lvm_reduce.specs.Answers.{is_over}
 use Rattle.lvm_volume_lines.specs.passed.GroupLines.{IsOn, ScriptState}
 use Rattle.lvm_volume_lines.specs.Volumes.{Drains}

@@ -11,10 +11,10 @@ use Rattle.lvm_session.specs.State.{Core, State}
 use Rattle.lvm_core.specs.declared.fault.CommitFault.TheVariants as commit
 use Rattle.lvm_core.specs.Committing.{HasGoneDark, IsLeftOut}
 use Rattle.lvm_core.specs.Sound.{HasNoneOpen}
-use Rattle.lvm_reduce.specs.declared.fault.ReduceFault.{ReduceFault}
-use Rattle.lvm_reduce.specs.declared.fault.ReduceFault.TheVariants as fault
-use Rattle.lvm_reduce.specs.Answers.{IsReduceRefused, ReduceGives, is_over}
-use Rattle.lvm_reduce.specs.Steps.{BreaksFrom, BreaksOff, HasComeTo, with_removed}
+use Rattle.lvm_member_plan.specs.declared.fault.ReduceFault.{ReduceFault}
+use Rattle.lvm_member_plan.specs.declared.fault.ReduceFault.TheVariants as fault
+use Rattle.lvm_reduce.specs.Answers.{IsReduceRefused, ReduceGives, is_over, with_removed}
+use Rattle.lvm_member_steps.specs.Steps.{BreaksFrom, BreaksOff, HasComeTo}
 use Rattle.lvm_group_lines.proofs.FactsLemmas.{bears_given_up}
 use Rattle.lvm_volume_lines.proofs.passed.GroupLines.{Bears, bears_cut}
 use Rattle.lvm_volume_lines.proofs.ChangingLemmas.Giving.{cut_entered}

@@ -1,7 +1,7 @@
 use Rattle.std.proofs.Common.{◌≡◌, ◌∙◌, [], Bool, Result, Err, sym, ap, subst}
-use Rattle.lvm_reduce.specs.declared.fault.ReduceFault.{ReduceFault}
+use Rattle.lvm_member_plan.specs.declared.fault.ReduceFault.{ReduceFault}
 use Rattle.lvm_reduce.specs.Answers.{is_over}
-use Rattle.lvm_reduce.specs.declared.fault.ReduceFault.TheVariants as fault
+use Rattle.lvm_member_plan.specs.declared.fault.ReduceFault.TheVariants as fault
 use Rattle.lvm_volume_lines.specs.Commands.{IsLeftAs, IsLeftOn}
 use Rattle.lvm_member_lines.proofs.reducing.after_reduce.Goals as goal
 
