@@ -1,5 +1,5 @@
 -- Over disks that leave a group, by the contract of `reducevg`: what stands on the disks goes on to stand, and what a later varyon finds.
-use Rattle.std.specs.Prelude.{◌≡◌, ◌⊎◌, ℕ, List, [], Result, Ok, IsTrue, IsFalse}
+use Rattle.std.specs.Prelude.{◌≡◌, ◌≢◌, ◌⊎◌, ℕ, List, [], AllPairs, Result, Ok, IsTrue, IsFalse}
 use Rattle.lvm_num.specs.declared.descriptor.Descriptor.{Descriptor}
 use Rattle.lvm_num.specs.Descriptor.{is_member}
 use Rattle.lvm_vol.specs.Facts.{Fact}
@@ -11,17 +11,19 @@ use Rattle.lvm_session.specs.Sound.{IsSound}
 use Rattle.lvm_volume_plan.specs.passed.Names.{MayBeFound, IsSettled}
 use Rattle.lvm_volumes.specs.Endings.{StillHeld, KeepsFresh}
 use Rattle.lvm_members.specs.passed.Names.{ChangeLeaves}
-use Rattle.lvm_members.specs.declared.reducing.ReduceFault.{ReduceFault}
-use Rattle.lvm_members.specs.Reducing.{IfReduceOn, IsReducedBy, ReduceGives, reduced}
+use Rattle.lvm_member_plan.specs.declared.fault.ReduceFault.{ReduceFault}
+use Rattle.lvm_reduce.specs.Answers.{IfOn, ReduceGives}
+use Rattle.lvm_member_plan.specs.Descriptors.{IsReducedBy, reduced}
 use Rattle.lvm_tie_commands.specs.Commands.{MayBeCommanded, IsLeftStandingSince}
 use Rattle.lvm_tie_commands.specs.Serving.{MayServeWith}
 
 -- what the contract of `reducevg` says of these disks, whatever it answers
 pub record IsReduced (disks : List ℕ) (before after : ℕ) (old new : State) (answer : Result (Unit {0}) ReduceFault) : Type 0 where
+  pub differ : AllPairs (λ (a b : ℕ). a ≢ b) disks
   pub began : IsSettled old.core
-  pub on : IfReduceOn answer (IsSettled new.core)
-  pub still : IfReduceOn answer (StillHeld old new)
-  pub fresh : IfReduceOn answer (KeepsFresh old new)
+  pub on : IfOn answer (IsSettled new.core)
+  pub still : IfOn answer (StillHeld old new)
+  pub fresh : IfOn answer (KeepsFresh old new)
   pub leaves : ChangeLeaves (IsReducedBy disks old.core.descriptor) [] disks before after old new
   pub gives : ReduceGives disks before old new answer
 
@@ -30,7 +32,7 @@ pub record IsReduced (disks : List ℕ) (before after : ℕ) (old new : State) (
 -- A span goes on over disks that leave, whatever is answered, and where the session does, what stood stands again.
 abbrev pub ReduceGoesOn : Type 0
 ReduceGoesOn = (run : ℕ) (first : Moment) (disks : List ℕ) (before after : ℕ) (old new : State) (answer : Result (Unit {0}) ReduceFault)
-    → MayBeCommanded run first old → IsReduced disks before after old new answer → Keeps run first (moment_of new) × IfReduceOn answer (IsLeftStandingSince run first new)
+    → MayBeCommanded run first old → IsReduced disks before after old new answer → Keeps run first (moment_of new) × IfOn answer (IsLeftStandingSince run first new)
 
 -- ---- what is found
 
@@ -51,4 +53,4 @@ ReduceLeavesOut = (run : ℕ) (first : Moment) (disks : List ℕ) (before after 
 -- A sound session may be handed over behind disks that leave, where it goes on.
 abbrev pub ReduceServes : Type 0
 ReduceServes = (disks : List ℕ) (before after : ℕ) (old new : State) (answer : Result (Unit {0}) ReduceFault)
-    → IsSound old → IsReduced disks before after old new answer → IfReduceOn answer (MayServeWith [] new)
+    → IsSound old → IsReduced disks before after old new answer → IfOn answer (MayServeWith [] new)

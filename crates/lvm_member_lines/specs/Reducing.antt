@@ -5,9 +5,10 @@ use Rattle.lvm_disk.specs.Device.{Device}
 use Rattle.lvm_session.specs.State.{Core, State}
 use Rattle.lvm_core.specs.declared.fault.CommitFault.{CommitFault}
 use Rattle.lvm_core.specs.State.{state_of}
-use Rattle.lvm_members.specs.declared.reducing.ReduceFault.{ReduceFault}
-use Rattle.lvm_members.specs.declared.reducing.ReduceFault.TheVariants as fault
-use Rattle.lvm_members.specs.Reducing.{IsReducedBy, ReduceGives, is_reduce_over, reduce_ends}
+use Rattle.lvm_member_plan.specs.declared.fault.ReduceFault.{ReduceFault}
+use Rattle.lvm_member_plan.specs.declared.fault.ReduceFault.TheVariants as fault
+use Rattle.lvm_reduce.specs.Answers.{ReduceGives, ends_session, is_over}
+use Rattle.lvm_member_plan.specs.Descriptors.{IsReducedBy}
 use Rattle.lvm_member_laws.specs.Reducing.{IsReduced}
 use Rattle.lvm_volume_lines.specs.passed.Names.{Post}
 use Rattle.lvm_volume_lines.specs.passed.GroupLines.{IsNotOn, IsOn, IsRefused, open_in, ScriptState, Refusal, Reply, Stage}
@@ -45,7 +46,7 @@ pub record IsReduceCarriedOut {S : Type 0} (device : S → Device) (disks : List
   pub left : S × Core
   pub after : ℕ
   pub reduced : IsReduced disks before after (state_of device driver) (state_of device left) given
-  pub is : IsLeftAs device (is_reduce_over given) [] left posts bytes stage
+  pub is : IsLeftAs device (is_over given) [] left posts bytes stage
   pub says : answer ≡ reduce_reply given
 
 -- what it leaves of the session that has come to rest, with so much patience
@@ -61,5 +62,5 @@ pub data ReducevgDoes (name disks : List ℕ) (old new : ScriptState) (answer : 
   UndrainedReducevg : (core : Core) (why : CommitFault) → old.session ≡ Some core → IsOn name core → IsUndrained core old new why answer → ReducevgDoes name disks old new answer
   ReducesGroup : (core : Core) (left : ℕ) (mid : State) → old.session ≡ Some core → IsOn name core → Drains core old left mid → ReducevgEnds disks (Ok tt) false left mid old new → answer ≡ reply.Ok
       → ReducevgDoes name disks old new answer
-  ReducevgFails : (core : Core) (left : ℕ) (mid : State) (why : ReduceFault) → old.session ≡ Some core → IsOn name core → Drains core old left mid → ReducevgEnds disks (Err why) (reduce_ends why) left mid old new
+  ReducevgFails : (core : Core) (left : ℕ) (mid : State) (why : ReduceFault) → old.session ≡ Some core → IsOn name core → Drains core old left mid → ReducevgEnds disks (Err why) (ends_session why) left mid old new
       → answer ≡ reply.Refused (reduce_refusal why) → ReducevgDoes name disks old new answer

@@ -4,7 +4,7 @@ ghost use Rattle.lvm_status.specs.Members.{HasItsRows};
 ghost use Rattle.lvm_session.specs.Sound.{IsSound};
 ghost use Rattle.lvm_core.specs.Settled.{IsSettled};
 ghost use Rattle.lvm_core.specs.State.{state_of};
-ghost use Rattle.lvm_members.specs.Reducing.{is_reduce_over, reduce_ends};
+ghost use Rattle.lvm_reduce.specs.Answers.{ends_session, is_over};
 ghost use Rattle.lvm_volume_lines.specs.passed.TieCommands.{MayServeWith};
 ghost use Rattle.lvm_volume_lines.specs.passed.GroupLines.{EndsUnasked, OfGroup, IsBetweenStage, IsFittingStage};
 ghost use Rattle.lvm_volume_lines.specs.Commands.{IsLeftAs};
@@ -12,9 +12,10 @@ ghost use Rattle.lvm_member_lines.specs.Reducing.{IsReduceCarriedOut, ReducevgDo
 
 use lvm_core::CommandDriver;
 use lvm_disk::Shelf;
-use lvm_members::{ReduceFault, Reduced, reducevg};
+use lvm_member_plan::ReduceFault;
 use lvm_num::Name;
 use lvm_range_lines::below::volumes::GroupFault;
+use lvm_reduce::{Reduced, reducevg};
 use lvm_transfer::Patience;
 use lvm_volume_lines::below::Post;
 use lvm_volume_lines::below::stage::{Answered, Refusal, Reply, Stage};
@@ -41,9 +42,9 @@ fn reduce_refusal(why: ReduceFault) -> Refusal
 
 // The fault by which a session has ended, if this one has ended it.
 fn ending_of(why: ReduceFault) -> Option<GroupFault>
-    ensures ends { IfSome result (λ by. reduce_ends why ≡ true) }
+    ensures ends { IfSome result (λ by. ends_session why ≡ true) }
     ensures dark { IfSome result (λ by. (by ≡ GroupFault.Dark) ↔ (why ≡ ReduceFault.Dark)) }
-    ensures goes { IfNone result (reduce_ends why ≡ false) }
+    ensures goes { IfNone result (ends_session why ≡ false) }
 {
     match why {
         ReduceFault::Dark => Some(GroupFault::Dark),
@@ -67,10 +68,10 @@ fn after_reduce_fault<S: Shelf>(
     why: ReduceFault,
 ) -> Answered<S>
     requires dark { why ≡ ReduceFault.Dark → (S.device driver.0).flights ≡ [] }
-    requires lit { IsTrue (reduce_ends why) → (why ≡ ReduceFault.Dark → ⊥) → ((S.device driver.0).power ≡ true) × ((S.device driver.0).freed ≡ []) }
-    requires rows { IsFalse (reduce_ends why) → HasItsRows driver.1.descriptor driver.1.origin.table }
-    requires may { IsFalse (reduce_ends why) → MayServeWith [] (state_of S.device driver) }
-    ensures stage { IsLeftAs S.device (reduce_ends why) [] driver posts bytes result.stage }
+    requires lit { IsTrue (ends_session why) → (why ≡ ReduceFault.Dark → ⊥) → ((S.device driver.0).power ≡ true) × ((S.device driver.0).freed ≡ []) }
+    requires rows { IsFalse (ends_session why) → HasItsRows driver.1.descriptor driver.1.origin.table }
+    requires may { IsFalse (ends_session why) → MayServeWith [] (state_of S.device driver) }
+    ensures stage { IsLeftAs S.device (ends_session why) [] driver posts bytes result.stage }
     ensures reply { result.reply ≡ Reply.Refused (reduce_refusal why) }
 {
     match ending_of(why) {
@@ -87,10 +88,10 @@ fn after_reduce<S: Shelf>(
     done: Result<(), ReduceFault>,
 ) -> Answered<S>
     requires dark { done ≡ Err ReduceFault.Dark → (S.device driver.0).flights ≡ [] }
-    requires lit { IsTrue (is_reduce_over done) → (done ≡ Err ReduceFault.Dark → ⊥) → ((S.device driver.0).power ≡ true) × ((S.device driver.0).freed ≡ []) }
-    requires rows { IsFalse (is_reduce_over done) → HasItsRows driver.1.descriptor driver.1.origin.table }
-    requires may { IsFalse (is_reduce_over done) → MayServeWith [] (state_of S.device driver) }
-    ensures stage { IsLeftAs S.device (is_reduce_over done) [] driver posts bytes result.stage }
+    requires lit { IsTrue (is_over done) → (done ≡ Err ReduceFault.Dark → ⊥) → ((S.device driver.0).power ≡ true) × ((S.device driver.0).freed ≡ []) }
+    requires rows { IsFalse (is_over done) → HasItsRows driver.1.descriptor driver.1.origin.table }
+    requires may { IsFalse (is_over done) → MayServeWith [] (state_of S.device driver) }
+    ensures stage { IsLeftAs S.device (is_over done) [] driver posts bytes result.stage }
     ensures reply { result.reply ≡ reduce_reply done }
 {
     match done {

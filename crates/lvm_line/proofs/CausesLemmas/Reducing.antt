@@ -16,10 +16,13 @@ use Rattle.lvm_core.specs.Committing.{HasGoneDark, IsLeftOut}
 use Rattle.lvm_session.specs.declared.open.Power.TheVariants as power
 use Rattle.lvm_session.specs.State.{Core, State, is_there}
 use Rattle.lvm_status.specs.Update.{members_there}
-use Rattle.lvm_members.specs.declared.reducing.ReduceFault.{ReduceFault}
-use Rattle.lvm_members.specs.declared.reducing.ReduceFault.TheVariants as fault
-use Rattle.lvm_members.specs.passed.Names.{HasGoneOffBy, with_descriptor}
-use Rattle.lvm_members.specs.Reducing.{BreaksAt, HasComeTo, HasTooFew, IsReducedBy, ReduceBreaksOff, ReduceGives, reduce_ends}
+use Rattle.lvm_core.specs.declared.fault.CommitFault.TheVariants as commit
+use Rattle.lvm_members.specs.passed.Names.{HasGoneOffBy}
+use Rattle.lvm_member_plan.specs.declared.fault.ReduceFault.{ReduceFault}
+use Rattle.lvm_member_plan.specs.declared.fault.ReduceFault.TheVariants as fault
+use Rattle.lvm_member_plan.specs.Descriptors.{IsReducedBy}
+use Rattle.lvm_member_steps.specs.Steps.{BreaksFrom, BreaksOff, HasComeTo, WentOffAtOnce}
+use Rattle.lvm_reduce.specs.Answers.{ReduceGives, ends_session}
 use Rattle.lvm_volume_lines.specs.passed.GroupLines.{Refusal, ScriptState, patience_of_line}
 use Rattle.lvm_volume_lines.specs.passed.RefusalVariants as refusal
 use Rattle.lvm_volume_lines.specs.Volumes.{Drains, IsLeftEither}
@@ -46,18 +49,20 @@ module _ (name disks : List ℕ) (old new : ScriptState) (core : Core) (patience
   not_off off = let is = drains.settled.power in cc (is, off)
 
   -- the power was cut in the line
-  went_dark : ReduceBreaksOff disks patience mid left fault.Dark → Rose old.moment.device.counts.cuts left.device.counts.cuts
-  went_dark (end, rest, came, inl dark) = rose_before (path_frames drains.runs).keeps.counts.cuts (subst (λ (n : ℕ). Rose n left.device.counts.cuts) came.cuts dark.cut.cuts)
-  went_dark (end, rest, came, inr (k, dark)) = rose_before (path_frames drains.runs).keeps.counts.cuts (subst (λ (n : ℕ). Rose n left.device.counts.cuts) came.cuts dark.cut.cuts)
+  went_dark : BreaksOff disks patience mid left commit.Dark → Rose old.moment.device.counts.cuts left.device.counts.cuts
+  went_dark broke =
+      let dark : HasGoneDark broke.mid left = broke.breaks in
+      rose_before (path_frames drains.runs).keeps.counts.cuts (subst (λ (n : ℕ). Rose n left.device.counts.cuts) broke.come.cuts dark.cut.cuts)
 
   -- the shelf waited
   waited : (end : State) (rest : ℕ) → HasComeTo disks patience rest mid end → RoseBy rest end.device.counts.waits left.device.counts.waits → RoseBy patience_of_line old.moment.device.counts.waits left.device.counts.waits
   waited end rest came more = rose_in_line patience old.moment.device.counts.waits mid.device.counts.waits left.device.counts.waits drains.few drains.waited
-      (rose_on patience rest mid.device.counts.waits end.device.counts.waits left.device.counts.waits came.few came.waited more)
+      (rose_on patience rest mid.device.counts.waits end.device.counts.waits left.device.counts.waits came.spends.falls came.spends.waits more)
 
-  was_left : ReduceBreaksOff disks patience mid left fault.Stuck → RoseBy patience_of_line old.moment.device.counts.waits left.device.counts.waits
-  was_left (end, rest, came, inl out) = waited end rest came out.out.waits
-  was_left (end, rest, came, inr (k, out)) = waited end rest came out.out.waits
+  was_left : BreaksOff disks patience mid left commit.Stuck → RoseBy patience_of_line old.moment.device.counts.waits left.device.counts.waits
+  was_left broke =
+      let out : IsLeftOut broke.left broke.mid left = broke.breaks in
+      waited broke.mid broke.left broke.come out.out.waits
 
   -- a member was lost, and the votes by some descriptor with it
   lost_by : (by has : Descriptor) (have total : ℕ) (end : State) (rest : ℕ) → HasComeTo disks patience rest mid end → HasGoneOffBy by has have total end left → new.moment.device.counts ≡ left.device.counts
@@ -76,10 +81,10 @@ module _ (name disks : List ℕ) (old new : ScriptState) (core : Core) (patience
   )
     where
       there : members_there mid.core.status.group mid.core.status.wanted it.disk ≡ true
-      there = ap (λ (g : Descriptor). members_there g mid.core.status.wanted it.disk) drains.sound.fitting.group ∙ came.there it.disk it.was
+      there = ap (λ (g : Descriptor). members_there g mid.core.status.wanted it.disk) drains.sound.fitting.group ∙ came.before it.disk it.was
 
   -- or there were too few for a step
-  lacks : (next : Descriptor) (have total : ℕ) (end : State) (rest : ℕ) → HasComeTo disks patience rest mid end → IsReducedBy disks mid.core.descriptor next → HasTooFew next have total end left
+  lacks : (next : Descriptor) (have total : ℕ) (end : State) (rest : ℕ) → HasComeTo disks patience rest mid end → IsReducedBy disks mid.core.descriptor next → WentOffAtOnce next have total end left
       → (2 * have ≤ total) × LacksVotes disks have total old
   lacks next have total end rest came way it = (
     subst (λ (n : ℕ). 2 * have ≤ n) (sym it.total_is) (at_most_half next have it.few),
@@ -89,7 +94,7 @@ module _ (name disks : List ℕ) (old new : ScriptState) (core : Core) (patience
       next = next;
       way = subst (λ (g : Descriptor). IsReducedBy disks g next) (path_frames drains.runs).keeps.descriptor way;
       there = is_there end.core;
-      fewer = λ d there. was_there_first d (came.there d there);
+      fewer = λ d there. was_there_first d (came.before d there);
       have_is = it.have_is;
       total_is = it.total_is;
       few = it.few;
@@ -106,7 +111,7 @@ module _ (name disks : List ℕ) (old new : ScriptState) (core : Core) (patience
   no_more : left ≡ mid → IsLeftEither false left old new → WritesNoMore old new
   no_more same leaves = record { core = core; on = some; left = patience; mid = mid; drains = drains; wrote = ap (λ (d : Device). d.wrote) leaves.device ∙ ap (λ (s : State). s.device.wrote) same }
 
-  pub known_reduce : (why : ReduceFault) → ReduceGives disks patience mid left (Err why) → IsLeftEither (reduce_ends why) left old new → Known read (reduce_refusal why) old new
+  pub known_reduce : (why : ReduceFault) → ReduceGives disks patience mid left (Err why) → IsLeftEither (ends_session why) left old new → Known read (reduce_refusal why) old new
   known_reduce fault.Dark gives leaves = record {
     cause = subst (λ (n : Counts). Rose old.moment.device.counts.cuts n.cuts) (sym (counts_left true left old new leaves)) (⊎_elim (λ refused. absurd (not_dark refused.1)) (λ broken. went_dark broken.1) gives);
     off = λ is. none_left left old new leaves;
@@ -118,9 +123,12 @@ module _ (name disks : List ℕ) (old new : ScriptState) (core : Core) (patience
     unwritten = λ h t is. absurd (cc (is));
   }
     where
-      by : ReduceBreaksOff disks patience mid left (fault.WentOff have total) → CauseOf read (refusal.WentOff have total) old new
-      by (end, rest, came, inl (by, has, off)) = let its = lost_by by has have total end rest came off (counts_left true left old new leaves) in (its.0, inl (inl its.1))
-      by (end, rest, came, inr (next, way, few)) = let its = lacks next have total end rest came way few in (its.0, inr its.1)
+      from : (end : State) (rest : ℕ) → HasComeTo disks patience rest mid end → BreaksFrom disks rest mid end left (commit.WentOff have total) → CauseOf read (refusal.WentOff have total) old new
+      from end rest came (inl (by, has, off)) = let its = lost_by by has have total end rest came off (counts_left true left old new leaves) in (its.0, inl (inl its.1))
+      from end rest came (inr (next, way, few)) = let its = lacks next have total end rest came way few in (its.0, inr its.1)
+
+      by : BreaksOff disks patience mid left (commit.WentOff have total) → CauseOf read (refusal.WentOff have total) old new
+      by broke = from broke.mid broke.left broke.come broke.breaks
   known_reduce fault.Stuck gives leaves = record {
     cause = subst (λ (n : Counts). RoseBy patience_of_line old.moment.device.counts.waits n.waits) (sym (counts_left true left old new leaves)) (was_left gives.1);
     off = λ is. none_left left old new leaves;

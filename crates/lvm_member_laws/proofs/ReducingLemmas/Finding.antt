@@ -10,7 +10,7 @@ use Rattle.lvm_core.specs.Committing.{is_in}
 use Rattle.lvm_session.specs.State.{Core, State}
 use Rattle.lvm_volume_plan.specs.passed.Names.{MayBeFound}
 use Rattle.lvm_handover.specs.passed.Names.{IsHeld}
-use Rattle.lvm_members.specs.Reducing.{IsReducedBy, reduced}
+use Rattle.lvm_member_plan.specs.Descriptors.{IsReducedBy, reduced}
 use Rattle.lvm_tie_commands.proofs.BeginsLemmas.{Held}
 use Rattle.lvm_tie_commands.proofs.ChangingLemmas.Finding.{only_before}
 use Rattle.lvm_tie_commands.proofs.CommandsLemmas.Commands.{told_next}

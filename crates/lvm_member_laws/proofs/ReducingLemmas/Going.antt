@@ -22,9 +22,10 @@ use Rattle.lvm_volume_plan.specs.passed.Names.{IsSettled}
 use Rattle.lvm_even.specs.Even.{IsEven}
 use Rattle.lvm_volumes.specs.Endings.{StillHeld}
 use Rattle.lvm_members.specs.passed.Names.{IsOfChange}
-use Rattle.lvm_members.specs.declared.reducing.ReduceFault.{ReduceFault}
-use Rattle.lvm_members.specs.declared.reducing.ReduceFault.TheVariants as fault
-use Rattle.lvm_members.specs.Reducing.{HasReduced, IfReduceOn, IsReducedBy, ReduceGives, is_reduce_over, reduced}
+use Rattle.lvm_member_plan.specs.declared.fault.ReduceFault.{ReduceFault}
+use Rattle.lvm_member_plan.specs.declared.fault.ReduceFault.TheVariants as fault
+use Rattle.lvm_reduce.specs.Answers.{HasReduced, IfOn, ReduceGives, is_over}
+use Rattle.lvm_member_plan.specs.Descriptors.{IsReducedBy, reduced}
 use Rattle.lvm_tie_commands.specs.Commands.{IsLeftStandingSince, MayBeCommanded}
 use Rattle.lvm_tie_commands.proofs.CommandsLemmas.Commands.{KeepsEven, KeepsEvenFor, LeavesStanding, keeps_even_for, left_standing_by, told_next}
 use Rattle.lvm_tie_commands.proofs.HeldLemmas.{holds_before}
@@ -33,8 +34,8 @@ use Rattle.lvm_member_laws.proofs.Rows.{not_leaving, was_member}
 use Rattle.lvm_member_laws.proofs.DataLemmas.{change_keeps_even}
 
 -- where all three hold of a command behind which the session goes on, so does what follows from them
-pub on_all : (answer : Result (Unit {0}) ReduceFault) (P Q R S : Type 0) → IfReduceOn answer P → IfReduceOn answer Q → IfReduceOn answer R → (P → Q → R → S) → IfReduceOn answer S
-on_all answer P Q R S p q r all = by (is_reduce_over answer) p q r
+pub on_all : (answer : Result (Unit {0}) ReduceFault) (P Q R S : Type 0) → IfOn answer P → IfOn answer Q → IfOn answer R → (P → Q → R → S) → IfOn answer S
+on_all answer P Q R S p q r all = by (is_over answer) p q r
   where
     by : (over : Bool) → MatchBool over ⊤ P → MatchBool over ⊤ Q → MatchBool over ⊤ R → MatchBool over ⊤ S
     by true p q r = tt
@@ -45,7 +46,7 @@ pub data IsReducedOrNot (disks : List ℕ) (old new : State) : Type 0 where
   IsAsBefore : new ≡ old → IsReducedOrNot disks old new
   HaveLeft : HasReduced disks old new → IsReducedOrNot disks old new
 
-pub reduced_or_not : (disks : List ℕ) (patience : ℕ) (old new : State) (answer : Result (Unit {0}) ReduceFault) → ReduceGives disks patience old new answer → IfReduceOn answer (IsReducedOrNot disks old new)
+pub reduced_or_not : (disks : List ℕ) (patience : ℕ) (old new : State) (answer : Result (Unit {0}) ReduceFault) → ReduceGives disks patience old new answer → IfOn answer (IsReducedOrNot disks old new)
 reduced_or_not disks patience old new (Ok done) gives = HaveLeft gives.1
 reduced_or_not disks patience old new (Err fault.Dark) gives = tt
 reduced_or_not disks patience old new (Err (fault.WentOff have total)) gives = tt

@@ -1,20 +1,19 @@
 -- A session that disks have left is sound with requests.
-use Rattle.std.proofs.Common.{◌≡◌, ◌⊎◌, inl, inr, ⊎_elim, ℕ, ◌==◌, ◌-◌, ◌≤◌, ◌^◌, Bool, true, false, ◌&&◌, not, List, [], ◌∷◌, ◌++◌, append_assoc, length, map, Result, Ok, Err, refl, sym, ap, subst, ◌∙◌, arith}
-use Rattle.std.specs.Prelude.{IsTrue, IsFalse, Contains}
+use Rattle.std.proofs.Common.{◌≡◌, ◌⊎◌, inl, inr, ⊎_elim, ℕ, ◌==◌, ◌-◌, ◌≤◌, ◌^◌, Bool, true, false, ◌&&◌, not, List, [], ◌∷◌, ◌++◌, length, Result, Ok, Err, refl, sym, ap, subst, ◌∙◌, arith}
+use Rattle.std.specs.Prelude.{◌≢◌, AllPairs, IsTrue, IsFalse, Contains}
 use Rattle.std.proofs.lemmas.Bool.{or_right}
-use Rattle.std.proofs.lemmas.List.{append-nil}
 use Rattle.lvm_num.specs.declared.descriptor.Descriptor.{Descriptor}
 use Rattle.lvm_num.specs.declared.descriptor.PvRow.{PvRow}
 use Rattle.lvm_num.specs.declared.descriptor.LvRow.{LvRow}
 use Rattle.lvm_num.specs.declared.place.Pp.{Pp}
-use Rattle.lvm_num.specs.Descriptor.{IsValid, is_member}
+use Rattle.lvm_num.specs.Descriptor.{IsValid, is_member, most_members}
 use Rattle.lvm_num.specs.Status.{calls_stale, calls_missing}
 use Rattle.lvm_num.proofs.Booleans.{second_with_first}
 use Rattle.lvm_disk.specs.Counts.{Rose}
 use Rattle.lvm_disk.proofs.CountingLemmas.{rose_after, rose_before}
 use Rattle.lvm_vol.specs.declared.entry.Vol.TheVariants.{Disk}
-use Rattle.lvm_vol.specs.Facts.{Fact, Removed}
-use Rattle.lvm_vol.specs.Log.{Log}
+use Rattle.lvm_vol.specs.Facts.{Removed}
+use Rattle.lvm_vol.specs.Log.{Log, with_fact}
 use Rattle.lvm_vol.specs.Order.{Ordered}
 use Rattle.lvm_vol.proofs.FactsLemmas.Order.{ordered-push}
 use Rattle.lvm_kept.specs.Group.{IsOneOf}
@@ -35,28 +34,31 @@ use Rattle.lvm_keeps.proofs.LeftLemmas.Updates.{few_updates}
 use Rattle.lvm_volumes.specs.Endings.{HasFresh, KeepsFresh, StillHeld}
 use Rattle.lvm_volumes.proofs.StagesLemmas.Entering.{many_bound}
 use Rattle.lvm_members.specs.passed.Names.{ChangeLeaves}
-use Rattle.lvm_members.specs.declared.reducing.ReduceFault.{ReduceFault}
-use Rattle.lvm_members.specs.declared.reducing.ReduceFault.TheVariants as fault
-use Rattle.lvm_members.specs.Reducing.{HasReduced, IfReduceOn, IsReducedBy, MayReduce, reduced, with_removed}
+use Rattle.lvm_member_plan.specs.declared.fault.ReduceFault.{ReduceFault}
+use Rattle.lvm_member_plan.specs.declared.fault.ReduceFault.TheVariants as fault
+use Rattle.lvm_reduce.specs.Answers.{HasReduced, IfOn}
+use Rattle.lvm_member_plan.specs.Descriptors.{IsReducedBy, reduced}
+use Rattle.lvm_member_plan.specs.Refusals.{MayReduce}
+use Rattle.lvm_reduce.specs.Answers.{with_removed}
 use Rattle.lvm_handover.specs.Serving.{GoesOnFrom}
 use Rattle.lvm_handover.proofs.ServingLemmas.Serving.{other_members_serve}
 use Rattle.lvm_handover.proofs.ServingLemmas.Volumes.{found, had_fresh, its_row, none_before}
 use Rattle.lvm_tie_commands.specs.Serving.{MayServeWith}
 use Rattle.lvm_tie_commands.proofs.ServingLemmas.More.{refused}
 use Rattle.lvm_member_laws.specs.Reducing.{IsReduced, ReduceServes}
-use Rattle.lvm_member_laws.proofs.Rows.{contained_is, kept_contained, missing_has_row, not_leaving, stale_has_row, was_member}
+use Rattle.lvm_member_laws.proofs.Rows.{contained_is, kept_contained, missing_has_row, named_are_few, not_leaving, stale_has_row, was_member}
+
+-- so many members a group has at most
+at_most_128 : (big : Bool) → most_members big ≤ 128
+at_most_128 true = omega arith
+at_most_128 false = omega arith
 
 -- an order of facts goes on over such entries
-ordered_more : (run : ℕ) (facts : List Fact) (disks : List ℕ) → Ordered run [] facts → Ordered run [] (facts ++ map (λ (x : ℕ). Removed (Disk x)) disks)
-ordered_more run facts [] ordered = subst (Ordered run []) (sym (append-nil facts)) ordered
-ordered_more run facts (x ∷ disks) ordered =
-    subst (Ordered run []) (append_assoc facts (Removed (Disk x) ∷ []) (map (λ (y : ℕ). Removed (Disk y)) disks))
-    (ordered_more run (facts ++ Removed (Disk x) ∷ []) disks (ordered-push run [] facts (Removed (Disk x)) ordered tt))
-
 ordered_removed : (disks : List ℕ) (log : Log) → Ordered log.run [] log.facts → Ordered (with_removed disks log).run [] (with_removed disks log).facts
-ordered_removed disks log ordered = ordered_more log.run log.facts disks ordered
+ordered_removed [] log ordered = ordered
+ordered_removed (x ∷ disks) log ordered = ordered_removed disks (with_fact log (Removed (Disk x))) (ordered-push log.run [] log.facts (Removed (Disk x)) ordered tt)
 
-module _ (disks : List ℕ) (before after : ℕ) (old new : State) (sound : IsSound old) (began : IsSettled old.core) (on : IsSettled new.core) (still : StillHeld old new) (keeps : KeepsFresh old new)
+module _ (disks : List ℕ) (differ : AllPairs (λ (a b : ℕ). a ≢ b) disks) (before after : ℕ) (old new : State) (sound : IsSound old) (began : IsSettled old.core) (on : IsSettled new.core) (still : StillHeld old new) (keeps : KeepsFresh old new)
     (leaves : ChangeLeaves (IsReducedBy disks old.core.descriptor) [] disks before after old new) (may : MayReduce disks old.core) (done : HasReduced disks old new) where
   abbrev was : Descriptor
   was = old.core.descriptor
@@ -88,13 +90,13 @@ module _ (disks : List ℕ) (before after : ℕ) (old new : State) (sound : IsSo
 
     -- of a member the status with which the session began says what it did
     missing_first : (d : ℕ) → IsTrue (is_member new.core.descriptor d) → calls_missing new.core.origin.table d ≡ calls_missing old.core.origin.table d
-    missing_first d is = done.origin.missing d ∙ ap (λ (b : Bool). b && calls_missing old.core.origin.table d) (as_reduced d is)
+    missing_first d is = done.origin_is.missing d ∙ ap (λ (b : Bool). b && calls_missing old.core.origin.table d) (as_reduced d is)
 
     stale_first : (p : Pp) → IsTrue (is_member new.core.descriptor p.disk) → calls_stale new.core.origin.table p ≡ calls_stale old.core.origin.table p
-    stale_first p is = done.origin.stale p ∙ ap (λ (b : Bool). b && calls_stale old.core.origin.table p) (as_reduced p.disk is)
+    stale_first p is = done.origin_is.stale p ∙ ap (λ (b : Bool). b && calls_stale old.core.origin.table p) (as_reduced p.disk is)
 
     member_first : (d : ℕ) → IsTrue (has_row new.core.origin.table d) → IsTrue (is_member new.core.descriptor d)
-    member_first d row = subst (λ (g : Descriptor). IsTrue (is_member g d)) (sym now) (sym (done.origin.rows d) ∙ row)
+    member_first d row = subst (λ (g : Descriptor). IsTrue (is_member g d)) (sym now) (sym (done.origin_is.rows d) ∙ row)
 
     placed : ArePlaced new.device.sizes new.core.descriptor new.core.origin.table
     placed row among there =
@@ -150,16 +152,18 @@ module _ (disks : List ℕ) (before after : ℕ) (old new : State) (sound : IsSo
       is = done.is ∙ ap (λ (c : Core). record old.core { descriptor = c.descriptor; cache = c.cache; origin = c.origin; history = c.history; last = c.last; status = c.status; homes = c.homes }) (sym done.is);
       entries = ap (λ (c : Core). c.cache.entries) done.is;
       placed = placed;
-      rows = λ d. done.origin.rows d ∙ sym (ap (λ (g : Descriptor). is_member g d) now);
-      ordered = subst (λ (l : Log). Ordered l.run [] l.facts) (sym done.history) (ordered_removed done.entered old.core.history sound.told.ordered);
+      rows = λ d. done.origin_is.rows d ∙ sym (ap (λ (g : Descriptor). is_member g d) now);
+      ordered = subst (λ (l : Log). Ordered l.run [] l.facts) (sym done.enters.history) (ordered_removed done.entered old.core.history sound.told.ordered);
       room = ap (λ (l : Log). l.room) leaves.history.room;
       numbers =
           let many = many_bound old.core sound.fitting.valid sound.fitting.group in
           let most = leaves.numbers.most in
-          let few : length disks ≤ 128 = may.few in
+          let few : length disks ≤ length was.pvs = named_are_few disks was.pvs differ may.free.members in
+          let all : length was.pvs ≤ most_members was.big = sound.fitting.valid.head.members in
+          let most_of : most_members was.big ≤ 128 = at_most_128 was.big in
           let left : 65536 ≤ 2 ^ 32 - 1 - old.core.status.stamp.seq = may.room.numbers in
           let updates : updates_left new.core ≤ 129 = few_updates new.core valid on.quiet.requests on.quiet.copy in
-          omega (arith, many, most, few, left, updates);
+          omega (arith, many, most, few, all, most_of, left, updates);
       left = still.left (none_before old sound began);
       since = λ d.
           let at : faults_at_first old.core d ≤ old.device.counts.faults d = sound.origin.since d in
@@ -178,7 +182,7 @@ module _ (disks : List ℕ) (before after : ℕ) (old new : State) (sound : IsSo
   )
 
 pub reduce_serves : ReduceServes
-reduce_serves disks before after old new (Ok done) sound c = reduced_serves disks before after old new sound c.began c.on c.still c.fresh c.leaves c.gives.0 c.gives.1
+reduce_serves disks before after old new (Ok done) sound c = reduced_serves disks c.differ before after old new sound c.began c.on c.still c.fresh c.leaves c.gives.0 c.gives.1
 reduce_serves disks before after old new (Err fault.Dark) sound c = tt
 reduce_serves disks before after old new (Err (fault.WentOff have total)) sound c = tt
 reduce_serves disks before after old new (Err fault.Stuck) sound c = tt

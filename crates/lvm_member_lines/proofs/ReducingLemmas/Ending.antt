@@ -11,9 +11,10 @@ use Rattle.lvm_core.specs.Committing.{moment_of}
 use Rattle.lvm_core.specs.Settled.{IsSettled}
 use Rattle.lvm_core.specs.Sound.{HaveAllLanded}
 use Rattle.lvm_core.specs.State.{state_of}
-use Rattle.lvm_members.specs.declared.reducing.ReduceFault.{ReduceFault}
-use Rattle.lvm_members.specs.declared.reducing.ReduceFault.TheVariants as fault
-use Rattle.lvm_members.specs.Reducing.{IfReduceOn, IsReducedBy, ReduceGives, is_reduce_over}
+use Rattle.lvm_member_plan.specs.declared.fault.ReduceFault.{ReduceFault}
+use Rattle.lvm_member_plan.specs.declared.fault.ReduceFault.TheVariants as fault
+use Rattle.lvm_reduce.specs.Answers.{IfOn, ReduceGives, is_over}
+use Rattle.lvm_member_plan.specs.Descriptors.{IsReducedBy}
 use Rattle.lvm_range_lines.specs.passed.TieCommands.{IsLeftStandingSince, MayBeCommanded}
 use Rattle.lvm_range_lines.specs.passed.Volumes.{StillHeld}
 use Rattle.lvm_range_lines.specs.passed.Names.{AreAnswered}
@@ -32,7 +33,7 @@ use Rattle.lvm_member_lines.proofs.ReducingLemmas.Giving.{IsKnownOfReduce, Reduc
 -- ---- by the answer
 
 -- the session goes on after an answer that doesn't end it
-pub if_on : (given : Result (Unit {0}) ReduceFault) (P : Type 0) → IfReduceOn given P → is_reduce_over given ≡ false → P
+pub if_on : (given : Result (Unit {0}) ReduceFault) (P : Type 0) → IfOn given P → is_over given ≡ false → P
 if_on given P on goes = subst (λ (over : Bool). MatchBool over ⊤ P) goes on
 
 module _ (old new : State) where
@@ -41,7 +42,7 @@ module _ (old new : State) where
   dark_still given facts dark = subst (λ (r : Result (Unit {0}) ReduceFault). ReduceFacts r old new) dark facts
 
   -- and where the session ended otherwise it is on;
-  pub lit_still : (given : Result (Unit {0}) ReduceFault) → ReduceFacts given old new → is_reduce_over given ≡ true → (given ≡ Err fault.Dark → ⊥) → (new.device.power ≡ true) × (new.device.freed ≡ [])
+  pub lit_still : (given : Result (Unit {0}) ReduceFault) → ReduceFacts given old new → is_over given ≡ true → (given ≡ Err fault.Dark → ⊥) → (new.device.power ≡ true) × (new.device.freed ≡ [])
   lit_still (Err fault.Dark) facts ends other = absurd (other refl)
   lit_still (Err (fault.WentOff have total)) facts ends other = (facts.power, facts.freed)
   lit_still (Err fault.Stuck) facts ends other = facts
@@ -58,7 +59,7 @@ module _ (old new : State) where
   as_is ready same = subst (λ (s : State). IsReady s.device) (sym same) ready
 
   -- it is ready where the session goes on,
-  ready_still : (given : Result (Unit {0}) ReduceFault) → IsReady old.device → ReduceFacts given old new → is_reduce_over given ≡ false → IsReady new.device
+  ready_still : (given : Result (Unit {0}) ReduceFault) → IsReady old.device → ReduceFacts given old new → is_over given ≡ false → IsReady new.device
   ready_still (Ok done) ready facts ends = facts
   ready_still (Err fault.Dark) ready facts ends = absurd (cc (ends))
   ready_still (Err (fault.WentOff have total)) ready facts ends = absurd (cc (ends))
@@ -72,7 +73,7 @@ module _ (old new : State) where
   ready_still (Err fault.Memory) ready facts ends = as_is ready facts
 
   -- and once it was closed and lit again.
-  closes_after : (given : Result (Unit {0}) ReduceFault) (shelf : Device) → ReduceFacts given old new → is_reduce_over given ≡ true → Relights new.device shelf → ClosesWell (reduce_reply given) new.device shelf
+  closes_after : (given : Result (Unit {0}) ReduceFault) (shelf : Device) → ReduceFacts given old new → is_over given ≡ true → Relights new.device shelf → ClosesWell (reduce_reply given) new.device shelf
   closes_after (Err fault.Dark) shelf facts ends lit = closes_dark (reply.Refused refusal.Dark) new.device shelf facts lit
   closes_after (Err (fault.WentOff have total)) shelf facts ends lit = closes_lit (reply.Refused (refusal.WentOff have total)) new.device shelf facts.power facts.freed (λ heard. facts) lit
   closes_after (Err fault.Stuck) shelf facts ends lit = closes_lit (reply.Refused refusal.Stuck) new.device shelf facts.0 facts.1 (λ heard. absurd (heard refl)) lit
@@ -112,11 +113,11 @@ module _ {S : Type 0} (device : S → Device) (stage : Stage S) (fits : IsFittin
     given = done.given
 
     module _ (known : IsKnownOfReduce mid left given)
-        (goes_on : (first : Moment) → MayBeCommanded run first mid → Keeps run first (moment_of left) × IfReduceOn given (IsLeftStandingSince run first left)) where
+        (goes_on : (first : Moment) → MayBeCommanded run first mid → Keeps run first (moment_of left) × IfOn given (IsLeftStandingSince run first left)) where
       promised : Promised mid left
       promised = promised_by (IsReducedBy disks mid.core.descriptor) [] disks patience done.after mid left done.reduced.leaves
 
-      abbrev carried : IsCarried run (is_reduce_over given) (reduce_reply given) (device (shelf_in it)) mid left
+      abbrev carried : IsCarried run (is_over given) (reduce_reply given) (device (shelf_in it)) mid left
       carried = record {
         closed = λ over. closes_after mid left given (device (shelf_in it)) known.facts over (subst (λ (b : Bool). IsLeftAs device b [] done.left stage.posts stage.bytes it) over done.is).lit;
         ready = λ goes. ready_still mid left given (ready_mid (state_in device stage 0) core mid (at_mid device stage fits between none patience driver rested 0)) known.facts goes;
@@ -129,12 +130,12 @@ module _ {S : Type 0} (device : S → Device) (stage : Stage S) (fits : IsFittin
         stands = λ goes m may alone. if_on given (IsLeftStandingSince run m left) (goes_on m may).1 goes;
       }
 
-      is_done : (last : ℕ) → IsChangeDone (IsReducedBy disks mid.core.descriptor) [] disks (λ was is. ReduceGives disks patience was is given) (is_reduce_over given) mid (state_in device stage last) (state_in device it last)
+      is_done : (last : ℕ) → IsChangeDone (IsReducedBy disks mid.core.descriptor) [] disks (λ was is. ReduceGives disks patience was is given) (is_over given) mid (state_in device stage last) (state_in device it last)
       is_done last = record {
         left = left;
         gives = done.reduced.gives;
-        leaves = left_either device stage fits between none patience driver rested role acts (is_reduce_over given) (reduce_reply given) [] done.left it done.is promised sectors carried (is_reduce_over given) refl last;
-        finds = finds_no_more device stage fits between none patience driver rested role acts (is_reduce_over given) (reduce_reply given) [] done.left it done.is promised sectors carried (IsReducedBy disks mid.core.descriptor) done.reduced.leaves.finds last;
+        leaves = left_either device stage fits between none patience driver rested role acts (is_over given) (reduce_reply given) [] done.left it done.is promised sectors carried (is_over given) refl last;
+        finds = finds_no_more device stage fits between none patience driver rested role acts (is_over given) (reduce_reply given) [] done.left it done.is promised sectors carried (IsReducedBy disks mid.core.descriptor) done.reduced.leaves.finds last;
         status = done.reduced.leaves.status;
         writes = done.reduced.leaves.writes;
         held = λ goes. (if_on given (StillHeld mid left) done.reduced.still goes).held;
@@ -144,7 +145,7 @@ module _ {S : Type 0} (device : S → Device) (stage : Stage S) (fits : IsFittin
 
       -- the line ends so, by what it does
       pub reduce_ends_so : (Does : Log → ScriptState → ScriptState → Reply → Type 0)
-          → ((last : ℕ) → IsChangeDone (IsReducedBy disks mid.core.descriptor) [] disks (λ was is. ReduceGives disks patience was is given) (is_reduce_over given) mid (state_in device stage last) (state_in device it last)
+          → ((last : ℕ) → IsChangeDone (IsReducedBy disks mid.core.descriptor) [] disks (λ was is. ReduceGives disks patience was is given) (is_over given) mid (state_in device stage last) (state_in device it last)
           → Does (without_facts (history_in stage)) (state_in device stage last) (state_in device it last) (reduce_reply given))
           → EndsUnasked device Does ⊥ role stage it answer
-      reduce_ends_so Does does = carried_ends device stage fits between none patience driver rested role acts (is_reduce_over given) (reduce_reply given) [] done.left it done.is promised sectors carried Does (λ last. does last (is_done last)) answer done.says
+      reduce_ends_so Does does = carried_ends device stage fits between none patience driver rested role acts (is_over given) (reduce_reply given) [] done.left it done.is promised sectors carried Does (λ last. does last (is_done last)) answer done.says
