@@ -1,9 +1,8 @@
 -- A session stays sound where a move is committed.
-use Rattle.std.proofs.Common.{◌≡◌, inl, ◌&&◌, ◌||◌, ℕ, Bool, true, false, List, [], ◌∷◌, Option, Some, None, if◌then◌else◌, refl, sym, ap, subst, ◌∙◌}
+use Rattle.std.proofs.Common.{◌≡◌, inl, ◌&&◌, ◌||◌, ℕ, true, false, List, [], ◌∷◌, Option, Some, None, if◌then◌else◌, refl, sym, ap, subst, ◌∙◌}
 use Rattle.std.specs.Prelude.{IfSome, is_none, is_some, Ok, Err, Result}
 use Rattle.std.specs.List.{list_any, AllByRecursion}
 use Rattle.lvm_num.specs.declared.place.Pp.{Pp}
-use Rattle.lvm_num.specs.declared.descriptor.Descriptor.{Descriptor}
 use Rattle.lvm_num.specs.DescriptorBytes.{descriptor_bytes}
 use Rattle.lvm_num.proofs.Booleans.{and_false}
 use Rattle.lvm_moved.specs.Moved.{moved_descriptor}
@@ -14,9 +13,8 @@ use Rattle.lvm_core.specs.declared.fault.CommitFault.TheVariants as fault
 use Rattle.lvm_session.specs.declared.bringing.OpenCopy.{OpenCopy}
 use Rattle.lvm_session.specs.declared.bringing.Step.TheVariants as step
 use Rattle.lvm_session.specs.declared.open.Open.{Open}
-use Rattle.lvm_session.specs.declared.open.Power.{Power}
 use Rattle.lvm_session.specs.Bringing.{hand_of, is_out}
-use Rattle.lvm_session.specs.Calls.{closed, is_aimed_at}
+use Rattle.lvm_session.specs.Calls.{closed}
 use Rattle.lvm_session.specs.Causes.{is_over}
 use Rattle.lvm_session.specs.Judging.{is_running, pps_of}
 use Rattle.lvm_session.specs.Marks.{is_among}
@@ -33,7 +31,7 @@ use Rattle.lvm_move_keeps.proofs.KeepingLemmas.{move_keeps_sound}
 use Rattle.lvm_move_keeps.proofs.StandsLemmas.{move_has_moved}
 use Rattle.lvm_move_keeps.proofs.StuckLemmas.{stuck_move_is_sound}
 use Rattle.lvm_going.specs.Going.{CommitsOpenMove, closed_after}
-use Rattle.lvm_going.specs.Moves.{next_by, next_in}
+use Rattle.lvm_going.specs.Moves.{next_in}
 
 -- ---- a session that is over loses its copy
 

@@ -346,7 +346,7 @@ done_is_judged s c sound on is moves state_is = by (is_out c.step) (is_still_aim
     its = move_of s.core c (subst (λ m. IfSome m (IsCopy s.core)) is (sound.on on).going.copy) moves
 
     running : {X : Type 0} (cursor : ℕ) → copy.Running cursor ≡ copy.Done → X
-    running cursor no = absurd cc
+    running cursor same = absurd cc
 
     by : (out aimed done : Bool) (end : Option CopyEnd) → is_move_done s.core c ≡ done → c.end ≡ end → told out aimed done end ≡ copy.Done → is_move_done s.core c ≡ true
     by out aimed true end d e t = d

@@ -1,6 +1,6 @@
 -- Where the commit of a move isn't heard of the session is sound once its copy is closed and it is stuck.
-use Rattle.std.proofs.Common.{◌≡◌, ℕ, zero, suc, ◌≤◌, ◌+◌, Bool, true, false, List, [], ◌∷◌, Some, None, length, replicate, refl, sym, ap, subst, ◌∙◌, arith}
-use Rattle.std.specs.Prelude.{◌==◌, Err, Result, count_by, slice_index_or}
+use Rattle.std.proofs.Common.{◌≡◌, ℕ, zero, suc, ◌≤◌, ◌+◌, Bool, true, false, List, [], ◌∷◌, length, replicate, refl, sym, ap, subst, ◌∙◌, arith}
+use Rattle.std.specs.Prelude.{◌==◌, Err, count_by, slice_index_or}
 use Rattle.std.specs.List.{AllByRecursion}
 use Rattle.std.proofs.lemmas.Bool.{ne_eqb}
 use Rattle.lvm_num.specs.Buffer.{Buffer}
@@ -18,26 +18,22 @@ use Rattle.lvm_write.specs.Written.{IsGivenUp}
 use Rattle.lvm_commit.specs.declared.commit.CommitEnd.{CommitEnd}
 use Rattle.lvm_commit.specs.declared.commit.CommitEnd.TheVariants as commit_end
 use Rattle.lvm_commit.specs.Settling.{DescriptorEnds}
-use Rattle.lvm_core.specs.declared.fault.CommitFault.{CommitFault}
 use Rattle.lvm_core.specs.declared.fault.CommitFault.TheVariants as fault
 use Rattle.lvm_core.specs.Committing.{with_one_out}
 use Rattle.lvm_core.proofs.CommittingLemmas.Spanning.{path_falls}
-use Rattle.lvm_core.proofs.SoundLemmas.Own.{one_counted}
 use Rattle.lvm_session.specs.declared.bringing.OpenCopy.{OpenCopy}
 use Rattle.lvm_session.specs.declared.open.Open.{Open}
 use Rattle.lvm_session.specs.declared.open.Power.TheVariants as power
 use Rattle.lvm_session.specs.Causes.{AreCounted, IsAnswered, IsCounted, IsLandedFor, IsTrueToOrigin}
-use Rattle.lvm_session.specs.Judging.{is_waiting}
 use Rattle.lvm_session.specs.Placed.{ArePlaced}
 use Rattle.lvm_session.specs.Requests.{IsOpenOne, IsPhase}
 use Rattle.lvm_session.specs.Sound.{HasNoneBegun, IsFitting, IsSound, IsTold, IsUnbegun, count_if, has_number, is_hand, out_with}
 use Rattle.lvm_session.specs.State.{Core, State, state}
-use Rattle.lvm_session.specs.WorkedMoves.{destination_flight}
 use Rattle.lvm_session.proofs.WorkedLemmas.Whole.{held_writes_are_sound}
 use Rattle.lvm_keeps.proofs.Lists.{count_cons}
 use Rattle.lvm_keeps.proofs.RequestsLemmas.{if_on}
 use Rattle.lvm_move.specs.Moving.{Misses, MoveEnds, Writes}
-use Rattle.lvm_move_keeps.specs.Keeping.{HasMovedTo, IsDoneMoving}
+use Rattle.lvm_move_keeps.specs.Keeping.{IsDoneMoving}
 use Rattle.lvm_move_keeps.specs.Stuck.{StuckMoveIsSound, StuckSessionsMayWait, stuck_session, stuck_without_copy}
 use Rattle.lvm_move_keeps.specs.Waiting.{IsUnadmitted}
 use Rattle.lvm_move_keeps.proofs.DrainedLemmas.{empty_held}
@@ -64,6 +60,15 @@ none_in_hands n (o ∷ os) all =
     let here : count_if (is_hand n o.got) ≡ 0 = ap (λ m. count_if (is_hand n m)) all.0.hand in
     let rest = none_in_hands n os all.1 in
     omega (arith, more, here, rest)
+
+-- of a pool whose buffers are all in the first one is out, and no other
+one_counted : (buf : Buffer) (pool : List Bool) (n : ℕ) → buf.number ≡ 0 → 1 ≤ length pool → pool ≡ replicate (length pool) false → count_if (has_number n buf) ≡ count_if (slice_index_or (with_one_out pool) n false)
+one_counted buf [] n is some all = absurd (omega (arith, some))
+one_counted buf (b ∷ rest) zero is some all = ap (λ (k : ℕ). count_if (k == 0)) is
+one_counted buf (b ∷ rest) (suc n) is some all =
+    ap (λ (k : ℕ). count_if (k == suc n)) is
+    ∙ ap count_if (ne_eqb 0 (suc n) (λ e. absurd (omega (arith, e))))
+    ∙ sym (ap count_if (ap (λ (p : List Bool). slice_index_or p (suc n) false) all ∙ none_out (length (b ∷ rest)) (suc n)))
 
 module _ (s : State) (c : OpenCopy) (next : Descriptor) (last : Stored) (homes : Homes) (device : Device) (patience : ℕ) (sound : IsSound s) (may : IsDoneMoving s c) (is : IsLeftOver s next last device) (out : IsGivenUp 0 patience s.device device) where
   abbrev taken : List Bool
