@@ -4,6 +4,7 @@ pub mod Landing
 pub mod Leaving
 pub mod Lending
 pub mod Loading
+pub mod MovingLanding
 pub mod Requests
 pub mod Serving
 pub mod Settling
