@@ -63,8 +63,8 @@ module _ {next : Option Descriptor} (device now : Device) (old new : Session) (i
   pub turn_on : (answer : Turned) → HasSectors now → AreValid old.updater → TurnMakes was is answer → Stay RunsOn device now old new next
   turn_on answer sectors valid made = let sound = turn_keeps was is answer it.1 made in run sound (MakesTurn answer valid sectors made) (it.2 ∙ sym (turn_next was is answer made))
 
-  pub order_on : (what : Arrange) (done : Bool) → ArrangesSession was is what done → Stay LeavesSession device now old new next
-  order_on what done order = let sound = order_keeps was is what done it.1 order in leave sound (Orders what done order) (order_next was is what done order)
+  pub order_on : (what : Arrange) (done : Bool) → (was.core.power ≡ power.Stuck → ⊥) → ArrangesSession was is what done → Stay LeavesSession device now old new next
+  order_on what done unstuck order = let sound = order_keeps was is what done it.1 order in leave sound (Orders what done unstuck order) (order_next was is what done order)
 
 module _ {next : Option Descriptor} (device : Device) (old new : Session) (it : AreSound device old next) (same : SameRooms old new) where
   pub submit_on : (client : ℕ) (ask : Ask) (bytes : Option (List ℕ)) (answer : Result ℕ AskFault)

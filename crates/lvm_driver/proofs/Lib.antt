@@ -8,4 +8,7 @@ mod AnswersLemmas
 pub mod BeginningsLemmas
 mod LogLemmas
 mod CallsLemmas
+mod CommitsLemmas
+pub mod EndedLemmas
+pub mod EpochLemmas
 pub mod StandingLemmas

@@ -2,7 +2,10 @@
 use Rattle.std.specs.Prelude.{◌≡◌, ◌+◌, ◌≤◌, ℕ, [], false, None, Result, Ok, Err}
 use Rattle.lvm_num.specs.Votes.{total_votes}
 use Rattle.lvm_session.specs.declared.open.Power.TheVariants as power
+use Rattle.lvm_session.specs.declared.answers.CopyState.TheVariants as copy
+use Rattle.lvm_session.specs.Calls.{copy_state}
 use Rattle.lvm_session.specs.Enabled.{first_event, is_lost}
+use Rattle.lvm_session.specs.Sound.{IsSound}
 use Rattle.lvm_session.specs.State.{State, votes_there}
 use Rattle.lvm_session.specs.declared.answers.Turned.{Turned}
 use Rattle.lvm_session.specs.declared.answers.Turned.TheVariants as turned
@@ -42,6 +45,10 @@ FailsSo left s (fault.DiskFailed disk) = ⊥
 abbrev pub DrainEnds : ℕ → State → Result (Unit {0}) CommitFault → Type 0
 DrainEnds left s (Ok done) = IsDrained s
 DrainEnds left s (Err why) = FailsSo left s why
+
+-- Then a copy that is open doesn't run: it has ended, or it is a move that is done.
+abbrev pub DrainedHasEnded : Type 0
+DrainedHasEnded = (s : State) → IsSound s → IsDrained s → (cursor : ℕ) → copy_state s.core ≡ copy.Running cursor → ⊥
 
 -- ---- what it costs
 

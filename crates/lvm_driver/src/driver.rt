@@ -1,14 +1,14 @@
 //! A session over its shelf.
-ghost use Rattle.std.specs.Prelude.{◌≡◌, ◌≤◌, ◌<◌, ◌+◌, ◌^◌, ◌↔◌, IsTrue, ℕ, false, Some, [], length, option_copied, slice_get};
+ghost use Rattle.std.specs.Prelude.{◌≡◌, ◌≢◌, ◌≤◌, ◌<◌, ◌+◌, ◌^◌, ◌↔◌, IfErr, IsTrue, ℕ, true, false, None, Some, [], length, option_copied, slice_get};
 ghost use Rattle.std.specs.List.{list_any};
 ghost use Rattle.lvm_num.specs.Descriptor.{IsValid};
 ghost use Rattle.lvm_num.specs.Votes.{total_votes};
 ghost use Rattle.lvm_disk.specs.Steps.{MayArrange};
 ghost use Rattle.lvm_vol.specs.Log.{is_open, spare_entries};
 ghost use Rattle.lvm_session.specs.declared.open.Power.TheVariants as power;
-ghost use Rattle.lvm_session.specs.Judging.{is_waiting};
+ghost use Rattle.lvm_session.specs.Judging.{is_missing, is_waiting};
 ghost use Rattle.lvm_session.specs.Fields.{core_of};
-ghost use Rattle.lvm_session.specs.Rooms.{HasRooms};
+ghost use Rattle.lvm_session.specs.Rooms.{HasRooms, SameRooms};
 ghost use Rattle.lvm_session.specs.State.{state, votes_there, state_of};
 ghost use Rattle.lvm_session.specs.declared.answers.CopyState.TheVariants as stage;
 ghost use Rattle.lvm_session.specs.Calls.{OpenGives, OpenMoveGives, SubmitGives, TakeGives, closed, copy_state};
@@ -22,17 +22,20 @@ ghost use Rattle.lvm_keeps_events.specs.passed.Names.{counts_seen};
 ghost use Rattle.lvm_keeps_events.specs.Reading.{GetsItsBlocks};
 ghost use Rattle.lvm_keeps_events.specs.Telling.{TurnTells};
 ghost use Rattle.lvm_going.specs.Frames.{is_moving};
-ghost use Rattle.lvm_going.specs.Going.{LeavesMoving, LeavesSession, RunsOn};
+ghost use Rattle.lvm_going.specs.Going.{CommitsOpenMove, LeavesMoving, LeavesSession, RunsOn, closed_after};
+ghost use Rattle.lvm_core.specs.declared.fault.CommitFault.TheVariants as fault;
+ghost use Rattle.lvm_driver.specs.Drains.{IsDrained};
 ghost use Rattle.lvm_going.specs.Statuses.{AreValid};
 ghost use Rattle.lvm_session_start.specs.Beginning.{AreFaults, MayBeginSession, first_core};
 ghost use Rattle.lvm_driver.specs.Answers.{IsCausedFor, IsCopyCaused, IsOffSince};
 
 use crate::dues::{all_due, submit, take};
 use crate::moves::{is_apart, prepare_move};
-use lvm_core::{Closed, Prepared, without_freed};
+use lvm_core::{Closed, CommitFault, Prepared, without_freed};
 use lvm_disk::{Arrange, Shelf};
-use lvm_due::left;
+use lvm_due::{is_missing, left};
 use lvm_history::History;
+use lvm_move::commit_move;
 use lvm_keeps_events::below::{close_copy, copy_state, open_copy, open_move};
 use lvm_num::{Descriptor, Pp, Stamp};
 use lvm_path::Ask;
@@ -42,6 +45,7 @@ use lvm_session_start::{Parts, begin_session};
 use lvm_session_turn::below::Due;
 use lvm_session_turn::{arrange, turn};
 use lvm_status::StaleTable;
+use lvm_transfer::Patience;
 use std::alloc::Global;
 use std::marker::Model;
 
@@ -222,6 +226,43 @@ impl<S: Shelf> Driver<S> {
         }
     }
 
+    /// Commits the move that is done: the copy stands on its new partition from then on. It is called once turns find nothing
+    /// to do and nothing is out, so that what waits is held back by the move. The copy is closed however it ends. It takes no
+    /// memory.
+    ///
+    /// # Errors
+    ///
+    /// - `WentOff`: the votes were lost while it wrote; all that waited has landed as Off.
+    /// - `Dark`: the power was cut; all that waited has landed as Dark.
+    /// - `Stuck`: nothing was heard of a transfer until the patience had run out. It is out, and the session is stuck.
+    ///
+    /// Not `DiskFailed`: a move whose disk is missing isn't done.
+    pub fn commit_move(&mut self, patience: &mut Patience) -> Result<(), CommitFault>
+        requires drained { IsDrained (state_of S.device self.old) }
+        requires moves { is_moving self.old.1 ≡ true }
+        requires done { copy_state self.old.1 ≡ stage.Done }
+        requires epoch { self.old.1.status.stamp.epoch ≢ 0 }
+        ensures commits { CommitsOpenMove patience.old.left patience.new.left (state_of S.device self.old) (state_of S.device self.new) result }
+        ensures disks { IfErr result (λ why. (disk : ℕ) → why ≡ fault.DiskFailed disk → ⊥) }
+        ensures closed { self.new.1.copy ≡ None }
+        ensures leaves { LeavesMoving (state_of S.device self.old) (state_of S.device self.new) }
+    {
+        let (next, bytes) = match self.next.take() {
+            Some(next) => next.into_parts(),
+            None => unreachable!(),
+        };
+        let answer = commit_move(
+            &mut self.session,
+            &mut self.shelf,
+            next,
+            bytes.as_slice(),
+            patience,
+        );
+        close_after(&mut self.session, &answer);
+        self.due = all_due(&self.session);
+        answer
+    }
+
     /// Whether no copy of a logical partition but the one of this number, from 1, stands on the disk of the partition.
     pub fn is_apart(&self, lv: u16, lp: u32, number: u8, to: Pp) -> bool
         ensures { IsTrue result ↔ IsApart self.now.1.descriptor lv lp number to }
@@ -260,7 +301,8 @@ impl<S: Shelf> Driver<S> {
     /// Gives an order to the shelf: a disk fails or heals, or the power is cut, which ends the session. Answers
     /// whether the shelf takes such orders; one that doesn't changes nothing.
     pub fn arrange(&mut self, what: Arrange) -> bool
-        requires { MayArrange (S.device self.old.0) what }
+        requires unstuck { self.old.1.power ≡ power.Stuck → ⊥ }
+        requires may { MayArrange (S.device self.old.0) what }
         ensures gives { ArrangesSession (state_of S.device self.old) (state_of S.device self.new) what result }
         ensures leaves { LeavesSession (state_of S.device self.old) (state_of S.device self.new) }
     {
@@ -301,6 +343,13 @@ impl<S: Shelf> Driver<S> {
         self.shelf.sectors(disk)
     }
 
+    /// The stamp of the last record of this session.
+    pub fn stamp(&self) -> Stamp
+        ensures { result ≡ self.now.1.status.stamp }
+    {
+        self.session.updater.stamp()
+    }
+
     /// How many sequence numbers are left for the stamps of this session's records.
     pub fn numbers_left(&self) -> u32
         ensures { result + self.now.1.status.stamp.seq + 1 ≡ 2 ^ 32 }
@@ -321,6 +370,13 @@ impl<S: Shelf> Driver<S> {
         ensures { result.now ≡ self.now.1.status.committed }
     {
         self.session.updater.committed()
+    }
+
+    /// Whether a disk is missing: it didn't answer when the session began, or a write of a record to it has failed since.
+    pub fn is_missing(&self, disk: u16) -> bool
+        ensures { result ≡ is_missing self.now.1 disk }
+    {
+        is_missing(&self.session, disk)
     }
 
     /// How many requests are open: submitted, and their answers not taken.
@@ -392,6 +448,17 @@ impl<S: Shelf> Driver<S> {
             shelf: without_freed(shelf),
             history,
         }
+    }
+}
+
+// The copy is closed, and the session is stuck where a transfer isn't heard of.
+fn close_after(session: &mut Session, answer: &Result<(), CommitFault>)
+    ensures is { core_of session.new ≡ closed_after answer.now (core_of session.old) }
+    ensures rooms { SameRooms session.old session.new }
+{
+    session.copy = None;
+    if let Err(CommitFault::Stuck) = answer {
+        session.power = Power::Stuck;
     }
 }
 

@@ -1,5 +1,6 @@
-//! Laws: which sessions may begin, and which copies may move.
+//! Laws: which sessions may begin, which copies may move, and what turns leave of a copy that is open.
 ghost use Rattle.lvm_driver.specs.Beginnings.{EachModeBegins, WholeGroupsBegin};
+ghost use Rattle.lvm_driver.specs.Drains.{DrainedHasEnded};
 ghost use Rattle.lvm_driver.specs.Moves.{MirrorsMayMove};
 
 /// A session of a group of which no member is missing may begin, whatever the modes of its volumes.
@@ -15,4 +16,9 @@ pub fn each_mode_begins()
 /// The second copy of its volume may begin to move to the third disk.
 pub fn mirrors_may_move()
     ensures { MirrorsMayMove }
+{}
+
+/// Once turns find nothing to do, a copy that is open doesn't run: it has ended, or it is a move that is done.
+pub fn drained_copies_have_ended()
+    ensures { DrainedHasEnded }
 {}

@@ -1,7 +1,7 @@
 -- Requests by their numbers, and who stands in the queue.
-use Rattle.std.proofs.Common.{◌≡◌, ◌<◌, ◌+◌, ◌||◌, ◌==◌, not, cond, nat_lt, ℕ, zero, suc, Bool, true, false, List, [], ◌∷◌, Option, Some, None, length, slice_get, slice_set, refl, sym, ◌∙◌, ap, arith}
+use Rattle.std.proofs.Common.{◌≡◌, ◌<◌, ◌+◌, ◌||◌, ◌==◌, not, cond, nat_lt, ℕ, zero, suc, Bool, true, false, List, [], ◌∷◌, Option, Some, None, length, slice_get, slice_set, refl, sym, ◌∙◌, ap, subst, arith}
 use Rattle.std.specs.Prelude.{if◌then◌else◌, position, IfSome}
-use Rattle.std.specs.List.{list_any, position_or_len}
+use Rattle.std.specs.List.{AllByRecursion, list_any, position_or_len}
 use Rattle.std.proofs.lemmas.Bool.{eq-eqb, eqb-true, lt-ltb, ltb-true, ne_eqb}
 use Rattle.std.proofs.lemmas.List.Folds.{position_or_len-set}
 use Rattle.std.proofs.lemmas.Option.{cond_some, get_or_from_slice_get, slice_get_within}
@@ -50,6 +50,21 @@ pub position_is : (os : List Open) (k : ℕ) (o : Open) (id : ℕ) → IsAscendi
 position_is os k o id order there is =
     ap (λ (n : ℕ). cond (nat_lt n (length os)) (Some n) None) (before_it os k o id order there is)
     ∙ ap (λ (b : Bool). cond b (Some k) None) (lt-ltb k (length os) (slice_get_within os k o there))
+
+-- one more in the place of another, of which the same holds
+all_set : (P : Open → Type 0) (os : List Open) (k : ℕ) (is : Open) → AllByRecursion P os → P is → AllByRecursion P (slice_set os k is)
+all_set P [] k is all its = all
+all_set P (o ∷ os) zero is all its = (its, all.1)
+all_set P (o ∷ os) (suc k) is all its = (all.0, all_set P os k is all.1 its)
+
+-- numbers ascend still where one is put in the place of another of its number
+pub ascends_set : (os : List Open) (k : ℕ) (was is : Open) → slice_get os k ≡ Some was → is.request.id ≡ was.request.id → IsAscending os → IsAscending (slice_set os k is)
+ascends_set [] k was is there same order = order
+ascends_set (o ∷ os) zero was is there same order =
+    let its : o.request.id ≡ is.request.id = (let e : o ≡ was = cc there in ap (λ (z : Open). z.request.id) e ∙ sym same) in
+    (subst (λ n. AllByRecursion (λ (later : Open). n < later.request.id) os) its order.0, order.1)
+ascends_set (o ∷ os) (suc k) was is there same order =
+    (all_set (λ (later : Open). o.request.id < later.request.id) os k is order.0 (subst (λ n. o.request.id < n) (sym same) (at_place (λ (later : Open). o.request.id < later.request.id) os k was order.0 there)), ascends_set os k was is there same order.1)
 
 pub position_set : (test : Open → Bool) (os : List Open) (k : ℕ) (was is : Open) → slice_get os k ≡ Some was → test is ≡ test was → position test (slice_set os k is) ≡ position test os
 position_set test os k was is there same =

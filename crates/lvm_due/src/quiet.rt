@@ -3,7 +3,9 @@ ghost use Rattle.std.specs.Prelude.{◌≡◌, ◌<◌, ◌==◌, ℕ, true, len
 ghost use Rattle.std.specs.List.{list_any};
 ghost use Rattle.lvm_session.specs.declared.open.Open.{Open};
 ghost use Rattle.lvm_session.specs.Fields.{core_of};
+ghost use Rattle.lvm_session.specs.Dark.{IsAscending};
 ghost use Rattle.lvm_session.specs.Judging.{counts_failed};
+ghost use Rattle.lvm_session.specs.Sound.{IsGoing};
 ghost use Rattle.lvm_due.specs.Due.{any_fails, WantsNothing, NoneFailsAt, NoneFailsFor};
 
 use crate::below::counts_failed;
@@ -40,17 +42,48 @@ pub fn any_fails(session: &Session, place: usize) -> bool
     fails(session, &session.requests[place])
 }
 
+// Looks for the request of a number through the table.
 fn position_of(requests: &[Open], id: u64) -> Option<usize>
     ensures { result ≡ position (λ (o : Open). o.request.id == id) requests.now }
 {
     requests.iter().position(|open| open.request.id == id)
 }
 
-/// The place of the request of a number.
-pub fn place_of(session: &Session, id: u64) -> Option<usize>
-    ensures { result ≡ position (λ (o : Open). o.request.id == id) session.now.requests.items }
+// Where it stands if all requests between it and the first are open.
+fn likely_place(requests: &[Open], id: u64) -> usize {
+    match requests.first() {
+        None => 0,
+        Some(first) => id.saturating_sub(first.request.id) as usize,
+    }
+}
+
+// Whether the request at a place, if there is one, has this number.
+fn stands_at(requests: &[Open], place: usize, id: u64) -> bool
+    ensures within { result ≡ true → place < length requests.now }
+    ensures its { result ≡ true → IsAscending requests.now → position (λ (o : Open). o.request.id == id) requests.now ≡ Some place }
 {
-    position_of(&session.requests, id)
+    place < requests.len() && requests[place].request.id == id
+}
+
+// The place of the request of a number in a table in which the numbers ascend.
+fn place_in(requests: &[Open], id: u64) -> Option<usize>
+    ensures within { IfSome result (λ k. k < length requests.now) }
+    ensures place { IsAscending requests.now → result ≡ position (λ (o : Open). o.request.id == id) requests.now }
+{
+    let likely = likely_place(requests, id);
+    if stands_at(requests, likely, id) {
+        Some(likely)
+    } else {
+        position_of(requests, id)
+    }
+}
+
+/// The place of the request of a number, where the numbers ascend: it is looked for first where it likely stands.
+pub fn place_of(session: &Session, id: u64) -> Option<usize>
+    ensures within { IfSome result (λ k. k < length session.now.requests.items) }
+    ensures place { IsAscending session.now.requests.items → result ≡ position (λ (o : Open). o.request.id == id) session.now.requests.items }
+{
+    place_in(&session.requests, id)
 }
 
 /// Answers yes only where no copy is open, nothing is wanted of the status that isn't committed, and no target of the
@@ -90,7 +123,7 @@ fn is_quiet_at(session: &Session, place: Option<usize>) -> bool
 
 /// Answers yes only where it is so at the place of the request whose transfer this is.
 pub fn is_quiet_for(session: &Session, owner: Owner) -> bool
-    ensures { result ≡ true → NoneFailsFor (core_of session.now) owner }
+    ensures { IsGoing (core_of session.now) → result ≡ true → NoneFailsFor (core_of session.now) owner }
 {
     match owner {
         Owner::Data { id, .. } => is_quiet_at(session, place_of(session, id)),

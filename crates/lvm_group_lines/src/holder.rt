@@ -73,9 +73,10 @@ impl<S: Shelf> Holder<S> {
         }
     }
 
-    /// Arranges a fault or a power cut on the shelf, where that takes such orders. A power cut ends the session.
+    /// Arranges a fault or a power cut on the shelf, where that takes such orders. A power cut ends the session, which is on.
     pub fn arrange(&mut self, what: Arrange) -> bool
-        requires { MayArrange (S.device (shelf_of self.old)) what }
+        requires on { IsOnIn self.old }
+        requires may { MayArrange (S.device (shelf_of self.old)) what }
         ensures shelf { ArrangeGives (S.device (shelf_of self.old)) (S.device (shelf_of self.new)) what result }
         ensures session { session_of self.new ≡ option_map (after_arrange what result) (session_of self.old) }
         ensures history { history_of self.new ≡ history_after what result (history_of self.old) (session_of self.old) }

@@ -240,7 +240,7 @@ module _ (old new : State) (sound : IsSound old) (none : AnyFailedSince old → 
   step_enters (Runs it) = run_enters it
   step_enters (OpensCopy lv lp number (Ok done) unstuck gives same) = still (ap (λ (c : Core). c.history.facts) (opened_so _ old.core new.core lv lp number gives).1.is)
   step_enters (OpensCopy lv lp number (Err why) unstuck gives same) = same_core (refused_for _ old.core new.core lv lp number why gives).1
-  step_enters (Orders what done it) = arrange_enters (done && is_cut what) it.is
+  step_enters (Orders what done unstuck it) = arrange_enters (done && is_cut what) it.is
 
 -- ---- from a moment to a later one
 

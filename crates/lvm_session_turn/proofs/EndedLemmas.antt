@@ -1,12 +1,12 @@
 -- The request of a transfer that has ended, and what may be done of it.
-use Rattle.std.proofs.Common.{◌≡◌, ◌<◌, ◌==◌, ℕ, zero, suc, Bool, true, false, List, [], ◌∷◌, Option, Some, None, slice_get, slice_set, if◌then◌else◌, refl, sym, ◌∙◌, ap, subst, arith}
+use Rattle.std.proofs.Common.{◌≡◌, ◌<◌, ◌==◌, ℕ, zero, suc, Bool, true, false, List, [], ◌∷◌, Option, Some, None, get_or, length, slice_get, slice_set, if◌then◌else◌, refl, sym, ◌∙◌, ap, subst, arith}
 use Rattle.std.specs.Prelude.{◌&&◌, ◌||◌, All, position}
 use Rattle.std.specs.List.{AllByRecursion, list_any, position_or_len}
 use Rattle.std.specs.Option.{option_map_or}
 use Rattle.std.proofs.lemmas.Bool.{eqb-true}
 use Rattle.std.proofs.lemmas.List.Elements.{All-cons, All-nil}
 use Rattle.std.proofs.lemmas.List.Folds.{find_at}
-use Rattle.std.proofs.lemmas.Option.{slice_get_within}
+use Rattle.std.proofs.lemmas.Option.{slice_get-get_or, slice_get_within}
 use Rattle.lvm_num.specs.Buffer.{Buffer}
 use Rattle.lvm_num.specs.Descriptor.{IsPartitionOf}
 use Rattle.lvm_num.proofs.MarksLemmas.Maps.{find-Some}
@@ -48,6 +48,10 @@ has_id os id place any is =
     let it = some_there os place (omega (arith, within, at)) in
     let found = find_at t os ∙ ap (slice_get os) at ∙ it.1 in
     record { request = it.0; there = it.1; own = eqb-true it.0.request.id id (find-Some t os it.0 found).0 }
+
+-- the one at a place that has the number
+pub has_it : (os : List Open) (place id : ℕ) (d : Open) → place < length os → (get_or os place d).request.id ≡ id → HasId os place id
+has_it os place id d within own = record { request = get_or os place d; there = slice_get-get_or os place d within; own = own }
 
 pub never_none : (os : List Open) (id : ℕ) (found : Option ℕ) → list_any (λ (o : Open). o.request.id == id) os ≡ true → found ≡ position (λ (o : Open). o.request.id == id) os → found ≡ None → ⊥
 never_none os id found any is none =

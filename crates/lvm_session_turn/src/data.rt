@@ -1,5 +1,5 @@
 //! The transfer of a target of a request has ended.
-ghost use Rattle.std.specs.Prelude.{◌≡◌, ◌==◌, ◌<◌, true, Some, length, position, slice_get};
+ghost use Rattle.std.specs.Prelude.{◌≡◌, ◌==◌, ◌<◌, true, IfSome, Some, length, position, slice_get};
 ghost use Rattle.std.specs.List.{list_any};
 ghost use Rattle.lvm_path.specs.declared.target.Target.{Target};
 ghost use Rattle.lvm_pbuf.specs.Out.{IsOut};
@@ -23,8 +23,8 @@ fn position_of(requests: &[Open], id: u64) -> Option<usize>
     requests.iter().position(|open| open.request.id == id)
 }
 
-// The place of the request of this number in the table.
-fn place_of(session: &Session, id: u64) -> usize
+// Looks for the request of this number through the table.
+fn searched_place(session: &Session, id: u64) -> usize
     requires { list_any (λ (o : Open). o.request.id == id) session.now.requests.items ≡ true }
     ensures { HasId session.now.requests.items result id }
 {
@@ -32,6 +32,44 @@ fn place_of(session: &Session, id: u64) -> usize
         Some(place) => place,
         None => unreachable!(),
     }
+}
+
+// The place of the request of this number in the table: it is looked for first where it likely stands.
+fn place_of(session: &Session, id: u64) -> usize
+    requires { list_any (λ (o : Open). o.request.id == id) session.now.requests.items ≡ true }
+    ensures { HasId session.now.requests.items result id }
+{
+    match likely_at(&session.requests, id) {
+        Some(place) => place,
+        None => searched_place(session, id),
+    }
+}
+
+// The place at which it likely stands, where it stands there.
+fn likely_at(requests: &[Open], id: u64) -> Option<usize>
+    ensures { IfSome result (λ place. HasId requests.now place id) }
+{
+    let place = likely_place(requests, id);
+    if stands_at(requests, place, id) {
+        Some(place)
+    } else {
+        None
+    }
+}
+
+// Where it stands if all requests between it and the first are open.
+fn likely_place(requests: &[Open], id: u64) -> usize {
+    match requests.first() {
+        None => 0,
+        Some(first) => id.saturating_sub(first.request.id) as usize,
+    }
+}
+
+// Whether the request at a place, if there is one, has this number.
+fn stands_at(requests: &[Open], place: usize, id: u64) -> bool
+    ensures { result ≡ true → HasId requests.now place id }
+{
+    place < requests.len() && requests[place].request.id == id
 }
 
 // The target of this number, from 0.

@@ -57,4 +57,4 @@ CloseGoesOn = (run : ℕ) (s : State) (new : Core) → IsSound (state s.device n
 
 -- and over an order to the shelf.
 abbrev pub ArrangeGoesOn : Type 0
-ArrangeGoesOn = (run : ℕ) (old new : State) (what : Arrange) (done : Bool) → IsSound old → IsSound new → ArrangesSession old new what done → SessionGoesOn run old new
+ArrangeGoesOn = (run : ℕ) (old new : State) (what : Arrange) (done : Bool) → (old.core.power ≡ power.Stuck → ⊥) → IsSound old → IsSound new → ArrangesSession old new what done → SessionGoesOn run old new

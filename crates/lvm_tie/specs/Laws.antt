@@ -33,7 +33,7 @@ pub record CallsRunOn : Type 0 where
       → IsSound (state s.device new) → OpenGives counts s.core new lv lp number answer → LeavesSession s (state s.device new)
   pub open_move : (s : State) (new : Core) (counts : Counts) (lv lp number : ℕ) (to : Pp) (answer : Result (Unit {0}) OpenFault)
       → IsSound (state s.device new) → OpenMoveGives counts s.core new lv lp number to answer → LeavesSession s (state s.device new)
-  pub arrange : (old new : State) (what : Arrange) (done : Bool) → IsSound old → IsSound new → ArrangesSession old new what done → LeavesSession old new
+  pub arrange : (old new : State) (what : Arrange) (done : Bool) → (old.core.power ≡ power.Stuck → ⊥) → IsSound old → IsSound new → ArrangesSession old new what done → LeavesSession old new
 
 -- Nothing that happens runs on, and one run behind another is one.
 pub record RunsJoin : Type 0 where

@@ -22,7 +22,7 @@ DarkGoesOn = (run : ℕ) (first : Moment) (old new : State) → old.core.power �
 -- And over an order of a client, also a power cut, and also where the session is over already.
 abbrev pub OrderGoesOn : Type 0
 OrderGoesOn =
-    (run : ℕ) (first : Moment) (old new : State) (what : Arrange) (done : Bool) → IsSound old → IsGood run first old → ArrangesSession old new what done → SpanGoesOn run first (moment_of old) (moment_of new)
+    (run : ℕ) (first : Moment) (old new : State) (what : Arrange) (done : Bool) → (old.core.power ≡ power.Stuck → ⊥) → IsSound old → IsGood run first old → ArrangesSession old new what done → SpanGoesOn run first (moment_of old) (moment_of new)
 
 -- An order leaves a good session good, if it is on then.
 abbrev pub OrderTies : Type 0

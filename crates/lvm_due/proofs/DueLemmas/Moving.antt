@@ -24,6 +24,7 @@ use Rattle.lvm_session.specs.declared.flown.Owner.TheVariants as owner
 use Rattle.lvm_session.specs.declared.open.Open.{Open}
 use Rattle.lvm_session.specs.State.{Core, State, state}
 use Rattle.lvm_session.specs.Bringing.{ends_if, with_end}
+use Rattle.lvm_session.specs.Dark.{IsAscending}
 use Rattle.lvm_session.specs.Enabled.{can_pin, is_pin}
 use Rattle.lvm_session.specs.Ends.{DataLearns, after_data, learned}
 use Rattle.lvm_session.specs.Events.{Admits, Lands, Pins, StartsData, admitted_as, after_admission, after_landing, begun_as, landed_as, makes_dirty, with_flight, with_open, without_pin}
@@ -36,7 +37,7 @@ use Rattle.lvm_due.proofs.DueLemmas.Frames.{get_set}
 use Rattle.lvm_due.proofs.JudgingLemmas.{fails_read, failing_read}
 use Rattle.lvm_due.proofs.NotNextLemmas.{pins_past, starts_past}
 use Rattle.lvm_due.proofs.WritesLemmas.{start_fails, start_waits}
-use Rattle.lvm_due.proofs.Queues.{has_number, one_numbered, position_is, position_set, row_of, unqueued}
+use Rattle.lvm_due.proofs.Queues.{ascends_set, has_number, one_numbered, position_is, position_set, row_of, unqueued}
 
 not_both : {X : Type 0} {b : Bool} → b ≡ true → b ≡ false → X
 not_both is not_so = absurd (let e : true ≡ false = sym is ∙ not_so in cc e)
@@ -317,7 +318,7 @@ module _ (old new : Core) (at id target : ℕ) (buf : Buffer) (going : IsGoing o
   }
 
   -- at the place at which the request of the number stands now
-  pub end_moves : (place : ℕ) → position (has_number id) new.requests ≡ Some place → NoneFailsFor old (owner.Data id target) → NoneFailsAt new place → ChangesOne none none old new place
+  pub end_moves : (place : ℕ) → (IsAscending new.requests → position (has_number id) new.requests ≡ Some place) → NoneFailsFor old (owner.Data id target) → NoneFailsAt new place → ChangesOne none none old new place
   end_moves place found was is = subst (ChangesOne none none old new) same (ended_moves quiet_was (subst (NoneFailsAt new) (sym same) is))
     where
       here : position (has_number id) old.requests ≡ Some learns.place
@@ -329,5 +330,8 @@ module _ (old new : Core) (at id target : ℕ) (buf : Buffer) (going : IsGoing o
       there : position (has_number id) new.requests ≡ Some learns.place
       there = ap (position (has_number id)) (ended_requests quiet_was.calm.copy) ∙ position_set (has_number id) old.requests learns.place ended_was ended_now learns.its.there refl ∙ here
 
+      order : IsAscending new.requests
+      order = subst IsAscending (sym (ended_requests quiet_was.calm.copy)) (ascends_set old.requests learns.place ended_was ended_now learns.its.there refl going.told.table.ascending)
+
       same : learns.place ≡ place
-      same = cc (there, found)
+      same = cc (there, found order)

@@ -49,7 +49,7 @@ use Rattle.lvm_group_lines.proofs.FactsLemmas.{bears_cut}
 use Rattle.lvm_group_lines.proofs.StateLemmas.{answered_bears, end_posts, none_held, off_posts}
 use Rattle.lvm_group_lines.proofs.MomentsLemmas.Running.{IsRun, over_goes}
 use Rattle.lvm_group_lines.proofs.DarkLemmas.{dark_alone, dark_held, dark_is_cut, dark_leaves}
-use Rattle.lvm_group_lines.proofs.ShelvesLemmas.Ordering.{whose}
+use Rattle.lvm_group_lines.proofs.ShelvesLemmas.Ordering.{unstuck_by, whose}
 use Rattle.lvm_group_lines.proofs.DisksLemmas.{off}
 
 -- ---- a cut of the power
@@ -134,7 +134,7 @@ module _ (log : Log) (word : ℕ) (old new : ScriptState) (between : IsBetween o
       facts = ap (λ (l : Log). l.facts) (sym history);
       volumes = λ none. more (on.empty none).quiet.requests;
       between = between;
-      went = leaves_move_on begun end on.sound (order_leaves begun end (arrange.Cut word) true arranges);
+went = leaves_move_on begun end on.sound (order_leaves begun end (arrange.Cut word) true (unstuck_by core on.power) arranges);
       sound = sound;
     }
 

@@ -14,6 +14,7 @@ use Rattle.lvm_vol.specs.Log.{Log}
 use Rattle.lvm_kept.specs.Moments.{Moment}
 use Rattle.lvm_steps.specs.Moments.{RunBegins}
 use Rattle.lvm_steps.proofs.MomentsLemmas.Spans.{keeps_steps}
+use Rattle.lvm_session.specs.declared.open.Power.TheVariants as power
 use Rattle.lvm_session.specs.Dark.{after_arrange}
 use Rattle.lvm_session.specs.Sound.{IsSound}
 use Rattle.lvm_session.specs.State.{Core, state}
@@ -27,7 +28,7 @@ use Rattle.lvm_group_lines.specs.Ends.{EndsUnasked}
 use Rattle.lvm_group_lines.specs.Moments.{Aside, LineGoesOn}
 use Rattle.lvm_group_lines.specs.Shelves.{ArrangeDoes, IsArranged, over}
 use Rattle.lvm_group_lines.specs.Replies.{most_refusals}
-use Rattle.lvm_group_lines.specs.Stages.{HaveRooms, IsBetweenStage, IsFittingStage, IsOfKind, history_after, history_in, history_of, session_in, session_of, shelf_in, shelf_of, state_in}
+use Rattle.lvm_group_lines.specs.Stages.{HaveRooms, IsBetweenStage, IsFittingStage, IsOfKind, IsOnIn, history_after, history_in, history_of, session_in, session_of, shelf_in, shelf_of, state_in}
 use Rattle.lvm_group_lines.specs.State.{IsBetween, IsOnBetween, ScriptState, StandsAlone, without_facts}
 use Rattle.lvm_group_lines.specs.declared.holder.Holder.{Holder}
 use Rattle.lvm_group_lines.specs.declared.holder.Holder.TheVariants as holder
@@ -42,6 +43,16 @@ pub whose : {S : Type 0} (it : Holder S) (core : Core) → session_of it ≡ Som
 whose (holder.Off shelf history) core is = absurd (cc (is))
 whose (holder.Empty driver) core is = let e : driver.1 ≡ core = cc (is) in ap (λ (c : Core). c.history) (sym e)
 whose (holder.Serving driver) core is = let e : driver.1 ≡ core = cc (is) in ap (λ (c : Core). c.history) (sym e)
+
+-- the session that a holder has is on, if one is between lines
+pub is_on : {S : Type 0} (device : Device) (it : Holder S) → IfSome (session_of it) (IsOnBetween device) → IsOnIn it
+is_on device (holder.Off shelf history) on = tt
+is_on device (holder.Empty driver) on = tt
+is_on device (holder.Serving driver) on = on.power
+
+-- one that is on isn't stuck
+pub unstuck_by : (core : Core) → core.power ≡ power.On → core.power ≡ power.Stuck → ⊥
+unstuck_by core on stuck = let e : power.On ≡ power.Stuck = sym on ∙ stuck in cc e
 
 -- ---- an order that cuts no power
 
@@ -84,8 +95,8 @@ module _ (s : ScriptState) (disk : ℕ) (what : Arrange) (of_disk : IsOfDisk dis
     sound_then : IsSound (state ordered core)
     sound_then = order_keeps (state device core) (state ordered core) what true sound arranges
 
-    stays_good : StaysGood (state device core) (state ordered core)
-    stays_good = (going_leaves (state device core) (state ordered core) sound (order_leaves (state device core) (state ordered core) what true arranges)).1
+    stays_good : (core.power ≡ power.Stuck → ⊥) → StaysGood (state device core) (state ordered core)
+    stays_good unstuck = (going_leaves (state device core) (state ordered core) sound (order_leaves (state device core) (state ordered core) what true unstuck arranges)).1
 
   -- a session that is on is so on the shelf that took the order
   on_then : (core : Core) → IsOnBetween device core → IsOnBetween ordered core
@@ -102,8 +113,8 @@ module _ (s : ScriptState) (disk : ℕ) (what : Arrange) (of_disk : IsOfDisk dis
   stands_then run first None runs on between stands past begins = tt
   stands_then run first (Some core) runs on between stands past begins = λ alone. record {
     empty = λ none. let e = (stands past begins alone).empty none in record { held = e.held; notes = e.notes };
-    tied = λ some. ((stays_good core on.sound).good first (λ power earlier began. (stands earlier (subst (λ (n : ℕ). RunBegins n earlier first) runs began) alone).tied some)).0 on.power past (subst (λ (n : ℕ). RunBegins n past first) (sym runs) begins);
-    spares = λ some. ((stays_good core on.sound).descriptors between.descriptors).spares ((stands past begins alone).spares some);
+    tied = λ some. ((stays_good core on.sound (unstuck_by core on.power)).good first (λ power earlier began. (stands earlier (subst (λ (n : ℕ). RunBegins n earlier first) runs began) alone).tied some)).0 on.power past (subst (λ (n : ℕ). RunBegins n past first) (sym runs) begins);
+    spares = λ some. ((stays_good core on.sound (unstuck_by core on.power)).descriptors between.descriptors).spares ((stands past begins alone).spares some);
   }
 
   pub ordered_goes : (run : ℕ) (answer : Reply) → IfSome s.session (λ core. core.history.run ≡ run) → IsBetween s.moment s.session s.posts → most_refusals answer ≤ 1 → LineGoesOn run Aside answer s (over ordered s)

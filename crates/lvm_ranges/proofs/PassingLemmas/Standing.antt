@@ -1,6 +1,6 @@
 -- A session in which something isn't settled doesn't stand still.
-use Rattle.std.proofs.Common.{◌≡◌, ◌⊎◌, inl, inr, ◌≤◌, ℕ, Bool, true, false, ◌&&◌, ◌||◌, not, List, [], ◌∷◌, Option, Some, None, length, if◌then◌else◌, refl, sym, ap, subst, ◌∙◌, arith}
-use Rattle.std.specs.Prelude.{IfSome, count_by, is_none, is_some, slice_index_or}
+use Rattle.std.proofs.Common.{◌≡◌, ◌⊎◌, inl, inr, ◌≤◌, ℕ, Bool, true, false, ◌&&◌, ◌||◌, not, List, [], ◌∷◌, Option, Some, None, length, if◌then◌else◌, refl, sym, ap, ◌∙◌, arith}
+use Rattle.std.specs.Prelude.{count_by, is_none, slice_index_or}
 use Rattle.std.specs.List.{list_any, AllByRecursion}
 use Rattle.std.specs.Option.{option_map_or}
 use Rattle.std.proofs.lemmas.Bool.{or_parts, not-false}
@@ -12,41 +12,27 @@ use Rattle.lvm_num.specs.Descriptor.{is_member}
 use Rattle.lvm_num.specs.Disks.{has}
 use Rattle.lvm_num.specs.Status.{calls_missing}
 use Rattle.lvm_num.specs.Votes.{is_enough_to_write, votes_in}
-use Rattle.lvm_num.proofs.Booleans.{and_true, none_if}
+use Rattle.lvm_num.proofs.Booleans.{none_if}
 use Rattle.lvm_num.proofs.Lists.{all_false}
 use Rattle.lvm_disk.specs.Device.{Flight}
 use Rattle.lvm_status.specs.Update.{is_held, is_owed, is_there as is_there_so, seen}
-use Rattle.lvm_session.specs.declared.answers.CopyState.TheVariants as copy
-use Rattle.lvm_session.specs.declared.bringing.CopyEnd.{CopyEnd}
-use Rattle.lvm_session.specs.declared.bringing.CopyEnd.TheVariants as ending
 use Rattle.lvm_session.specs.declared.bringing.OpenCopy.{OpenCopy}
 use Rattle.lvm_session.specs.declared.event.Event.{Event}
 use Rattle.lvm_session.specs.declared.event.Event.TheVariants as event
-use Rattle.lvm_session.specs.declared.flown.Flown.{Flown}
-use Rattle.lvm_session.specs.declared.flown.Owner.{Owner}
 use Rattle.lvm_session.specs.declared.flown.Owner.TheVariants as owner
 use Rattle.lvm_session.specs.declared.open.Open.{Open}
 use Rattle.lvm_session.specs.State.{Core, State, is_there, votes_there}
-use Rattle.lvm_session.specs.Bringing.{is_out, is_whole}
-use Rattle.lvm_session.specs.Calls.{is_aimed_at, is_still_aimed, state_at_end, state_of_copy}
 use Rattle.lvm_session.specs.Dark.{hand_of_copy}
 use Rattle.lvm_session.specs.Enabled.{first_of, has_buffer, is_status_due, landing, or_next, parts_to_settle, parts_to_start, same_status}
-use Rattle.lvm_session.specs.Judging.{is_beside_copy, stays_fresh, is_held_by_move, is_move_done, is_running, is_under_way, is_waiting}
-use Rattle.lvm_session.specs.Owners.{AreRows, flies, same_owner}
+use Rattle.lvm_session.specs.Judging.{is_beside_copy, is_move_done, is_waiting}
 use Rattle.lvm_session.specs.Requests.{IsOpenOne}
 use Rattle.lvm_session.specs.Sound.{IsGoing, IsOn, IsSound, count_if, has_number, is_dark, is_hand}
 use Rattle.lvm_keeps.proofs.Lists.{count_cons}
 use Rattle.lvm_keeps.proofs.VotesLemmas.{enough_more, more_votes}
-use Rattle.lvm_ranges.proofs.passed.Names.{never_stands_still, none_waits_at_all}
-use Rattle.lvm_keeps.proofs.StateLemmas.{state_ended}
+use Rattle.lvm_driver.proofs.EndedLemmas.{has_ended, none_out, stands}
+use Rattle.lvm_ranges.proofs.passed.Names.{none_waits_at_all}
 use Rattle.lvm_ranges.specs.passed.Names.{IsDrained}
 use Rattle.lvm_ranges.specs.Passing.{Runs}
-
--- where no transfer is out none is owned
-none_flown : (core : Core) (rows : List Flown) (flights : List Flight) → AreRows core rows flights → flights ≡ [] → rows ≡ []
-none_flown core [] flights are none = refl
-none_flown core (row ∷ rows) [] are none = absurd are
-none_flown core (row ∷ rows) (f ∷ flights) are none = absurd (cc none)
 
 -- ---- tests
 
@@ -64,88 +50,10 @@ module _ (s : State) (sound : IsSound s) (drained : IsDrained s) where
   abbrev going : IsGoing core
   going = on.going
 
-  -- ---- nothing is out
-
-  flying : core.flying ≡ []
-  flying = none_flown core core.flying s.device.flights on.rows drained.idle
-
-  none_out : (who : Owner) → flies core who ≡ false
-  none_out who = by (flies core who) (sym (ap (λ (rows : List Flown). count_by (λ (f : Flown). same_owner who f.owner) rows) flying) ∙ going.owned who)
-    where
-      by : (b : Bool) → count_by (λ (f : Flown). same_owner who f.owner) [] ≡ count_if b → b ≡ false
-      by false e = refl
-      by true e = absurd (omega (arith, e))
-
-  -- ---- what doesn't wait for a move that is done is over
-
-  stands : (list_any (λ (o : Open). is_waiting o && not (is_held_by_move core o.request.ask)) core.requests ≡ false) × IfSome core.copy (λ (c : OpenCopy). is_running c && not (is_move_done core c) ≡ false)
-  stands = never_stands_still s sound drained.on drained.votes drained.none drained.idle
-
   -- ---- a copy that is open has ended
 
   pub still_ended : Runs core → ⊥
-  still_ended runs = by core.copy refl
-    where
-      ended : (c : OpenCopy) (m : Option CopyEnd) → is_none m ≡ false → option_map_or (state_at_end c) m (copy.Running c.cursor) ≡ copy.Running runs.0 → ⊥
-      ended c None over e = cc over
-      ended c (Some ending.Done) over e = cc e
-      ended c (Some ending.SyncFailed) over e = cc e
-      ended c (Some ending.NoFresh) over e = cc e
-      ended c (Some ending.Ended) over e = cc e
-
-      -- a move that is done runs, so that it is told as done
-      moved : (c : OpenCopy) → is_out c.step ≡ false → is_move_done core c ≡ true → state_of_copy core c ≡ copy.Running runs.0 → ⊥
-      moved c rests done e =
-          let told : copy.Done ≡ copy.Running runs.0 = sym (
-          ap (λ b. if b || is_still_aimed core c then copy.Running c.cursor else if is_move_done core c then copy.Done else option_map_or (state_at_end c) c.end (copy.Running c.cursor)) rests
-          ∙ ap (λ b. if b then copy.Running c.cursor else if is_move_done core c then copy.Done else option_map_or (state_at_end c) c.end (copy.Running c.cursor)) unaimed
-          ∙ ap (λ b. if b then copy.Done else option_map_or (state_at_end c) c.end (copy.Running c.cursor)) done
-          ) ∙ e in cc told
-        where
-          parts : is_running c ≡ true
-          parts = second c.moves (is_running c) (first (c.moves && is_running c) (is_whole core c) (first (c.moves && is_running c && is_whole core c) (stays_fresh core c.pp) (first (c.moves && is_running c && is_whole core c && stays_fresh core c.pp) (not (is_under_way core c)) done)))
-            where
-              first : (a b : Bool) → a && b ≡ true → a ≡ true
-              first true b f = refl
-              first false b f = absurd (cc f)
-
-              second : (a b : Bool) → a && b ≡ true → b ≡ true
-              second true b f = f
-              second false b f = absurd (cc f)
-
-          unended : is_some c.end ≡ false
-          unended = by_end c.end parts
-            where
-              by_end : (m : Option CopyEnd) → is_none m ≡ true → is_some m ≡ false
-              by_end None f = refl
-              by_end (Some how) f = absurd (cc f)
-
-          unaimed : is_still_aimed core c ≡ false
-          unaimed = ap (λ b. c.moves && b && is_aimed_at core c.pp) unended ∙ by_moves c.moves
-            where
-              by_moves : (m : Bool) → m && false && is_aimed_at core c.pp ≡ false
-              by_moves true = refl
-              by_moves false = refl
-
-      by : (m : Option OpenCopy) → core.copy ≡ m → ⊥
-      by None is = let e : copy.Closed ≡ copy.Running runs.0 = sym (ap (λ m. option_map_or (state_of_copy core) m copy.Closed) is) ∙ runs.1 in cc e
-      by (Some c) is = by_move (is_move_done core c) refl
-        where
-          rests : is_out c.step ≡ false
-          rests = sym (ap (λ m. option_map_or (λ (d : OpenCopy). is_out d.step) m false) is) ∙ none_out owner.Copy
-
-          told : state_of_copy core c ≡ copy.Running runs.0
-          told = sym (ap (λ m. option_map_or (state_of_copy core) m copy.Closed) is) ∙ runs.1
-
-          by_move : (b : Bool) → is_move_done core c ≡ b → ⊥
-          by_move true done = moved c rests done told
-          by_move false undone = ended c c.end stopped (sym (state_ended core c stopped rests landed) ∙ told)
-            where
-              stopped : is_running c ≡ false
-              stopped = sym (and_true (is_running c)) ∙ sym (ap (λ b. is_running c && not b) undone) ∙ subst (λ m. IfSome m (λ (d : OpenCopy). is_running d && not (is_move_done core d) ≡ false)) is stands.1
-
-              landed : list_any is_waiting core.requests ≡ false
-              landed = none_waits_at_all core (λ ask. ap (λ m. option_map_or (λ (d : OpenCopy). is_move_done core d && is_beside_copy core ask d) m false) is ∙ ap (λ b. b && is_beside_copy core ask c) undone) core.requests stands.0
+  still_ended runs = has_ended s sound drained runs.0 runs.1
 
   -- ---- without a copy no update is in flight
 
@@ -160,7 +68,7 @@ module _ (s : State) (sound : IsSound s) (drained : IsDrained s) where
         omega (arith, more, here, rest)
 
     none_wait : list_any is_waiting core.requests ≡ false
-    none_wait = none_waits_at_all core (λ ask. ap (λ m. option_map_or (λ (c : OpenCopy). is_move_done core c && is_beside_copy core ask c) m false) closed) core.requests stands.0
+    none_wait = none_waits_at_all core (λ ask. ap (λ m. option_map_or (λ (c : OpenCopy). is_move_done core c && is_beside_copy core ask c) m false) closed) core.requests (stands s sound drained).0
 
     first_free : count_if (slice_index_or core.pool 0 false) ≡ 0
     first_free =
@@ -203,13 +111,13 @@ module _ (s : State) (sound : IsSound s) (drained : IsDrained s) where
 
             each : (rows : List PvRow) → AllByRecursion (λ (r : PvRow). has core.status.writes.unstarted r.disk ≡ false) rows → AllByRecursion (λ (r : PvRow). is_there core r.disk ≡ true → (seen core.status).written r.disk ≡ true) rows
             each [] all = tt
-            each (r ∷ rows) all = (λ e. sym (ap (λ b. b || (has core.status.writes.started r.disk || has core.status.writes.written r.disk)) all.0 ∙ ap (λ b. b || has core.status.writes.written r.disk) (none_out (owner.Status r.disk))) ∙ going.status.each t flies_so r.disk (there_is r.disk e), each rows all.1)
+            each (r ∷ rows) all = (λ e. sym (ap (λ b. b || (has core.status.writes.started r.disk || has core.status.writes.written r.disk)) all.0 ∙ ap (λ b. b || has core.status.writes.written r.disk) (none_out s sound drained (owner.Status r.disk))) ∙ going.status.each t flies_so r.disk (there_is r.disk e), each rows all.1)
 
         not_owed : (rows : List PvRow) → list_any (λ (r : PvRow). has core.status.writes.unstarted r.disk) rows ≡ false → list_any (λ (r : PvRow). has core.status.writes.unstarted r.disk || has core.status.writes.started r.disk) rows ≡ false
         not_owed [] e = refl
         not_owed (r ∷ rows) e = let it = or_parts (has core.status.writes.unstarted r.disk) (list_any (λ (q : PvRow). has core.status.writes.unstarted q.disk) rows) e in
             ap (λ b. (b || has core.status.writes.started r.disk) || list_any (λ (q : PvRow). has core.status.writes.unstarted q.disk || has core.status.writes.started q.disk) rows) it.0
-            ∙ ap (λ b. b || list_any (λ (q : PvRow). has core.status.writes.unstarted q.disk || has core.status.writes.started q.disk) rows) (none_out (owner.Status r.disk)) ∙ not_owed rows it.1
+            ∙ ap (λ b. b || list_any (λ (q : PvRow). has core.status.writes.unstarted q.disk || has core.status.writes.started q.disk) rows) (none_out s sound drained (owner.Status r.disk)) ∙ not_owed rows it.1
 
         open_none : (t : Status) → core.status.in_flight ≡ Some t → list_any (λ (r : PvRow). has core.status.writes.unstarted r.disk) core.status.group.pvs ≡ false → (is_owed (seen core.status) ≡ true) ⊎ (is_held (seen core.status) ≡ false) → false ≡ true
         open_none t is none (inl owed) = sym (not_owed core.status.group.pvs none) ∙ owed

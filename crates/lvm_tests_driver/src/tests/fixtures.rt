@@ -328,6 +328,7 @@ pub fn drain<S: Shelf>(rt: &impl Abort, driver: &mut Driver<S>) -> Result<(), Co
 
 /// An order to the disks, the highest of which is 2.
 pub fn order<S: Shelf>(rt: &impl Abort, driver: &mut Driver<S>, what: Arrange) {
+    goes_on(rt, driver);
     assert!(rt; driver.disks() == 3);
     match what {
         Arrange::Fail(disk) | Arrange::Heal(disk) => assert!(rt; disk < 3),

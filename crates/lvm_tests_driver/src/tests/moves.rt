@@ -1,10 +1,13 @@
 //! A copy that moves to another partition, beside writes.
 use crate::tests::fixtures::{MIRROR, MODES, Setup, begin, check, close, drain, goes_on, turn};
 use crate::tests::steps::{Step, does, play};
+use lvm_core::CommitFault;
 use lvm_disk::{Arrange, Shelf};
+use lvm_memory::{Act, Planned};
 use lvm_num::Pp;
 use lvm_ranges::below::driver::Driver;
 use lvm_session::{CopyFault, CopyState, OpenFault, Taken};
+use lvm_transfer::Patience;
 use std::process::Abort;
 
 // A partition of the third disk, which the volume hasn't.
@@ -22,6 +25,18 @@ fn open_move<S: Shelf>(
     goes_on(rt, driver);
     assert!(rt; driver.is_apart(lv, lp, number, to));
     driver.open_move(rt.alloc(), lv, lp, number, to)
+}
+
+// Turns until the move is done, and commits it.
+fn commit<S: Shelf>(rt: &impl Abort, driver: &mut Driver<S>, left: u32) -> Result<(), CommitFault> {
+    goes_on(rt, driver);
+    let mut patience = Patience { left: 1_000 };
+    driver.drain(&mut patience)?;
+    assert!(rt; driver.is_moving());
+    assert!(rt; matches!(driver.copy_state(), CopyState::Done));
+    assert!(rt; driver.stamp().epoch != 0);
+    let mut patience = Patience { left };
+    driver.commit_move(&mut patience)
 }
 
 // The second copy begins to move to the third disk.
@@ -42,19 +57,23 @@ fn write_all<S: Shelf>(rt: &impl Abort, driver: &mut Driver<S>) {
     }
 }
 
-// A write waits while the move is done, and lands once it is given up.
-const AT_END: [(&str, Step); 8] = [
+// A write waits while the move is done,
+const UNTIL_DONE: [(&str, Step); 5] = [
     ("all is done", Step::Drain(Ok(()))),
     ("it is whole", Step::Copy(CopyState::Done)),
     ("taken", Step::Write(1, 9, Ok(10))),
     ("nothing is to be made", Step::Drain(Ok(()))),
     ("it waits", Step::Take(10, Taken::NotYet)),
-    ("given up", Step::Close(CopyState::Done)),
+];
+
+// and lands once it is no more.
+const BEHIND: [(&str, Step); 3] = [
+    ("closed", Step::Copy(CopyState::Closed)),
     ("it goes on", Step::Drain(Ok(()))),
     ("it is written", Step::Take(10, Taken::Done)),
 ];
 
-// What was written stands on both copies, which stayed where they were.
+// What was written stands on the second copy.
 fn stands<S: Shelf>(rt: &impl Abort, driver: &mut Driver<S>) {
     for k in 0..8 {
         does(rt, driver, "written", Step::Take(k + 2, Taken::Done));
@@ -66,7 +85,18 @@ fn stands<S: Shelf>(rt: &impl Abort, driver: &mut Driver<S>) {
     does(rt, driver, "so does this", Step::Got(1, Ok(9)));
 }
 
-fn move_beside_writes<S: Shelf + Drop>(rt: &(impl Abort + AllocGlobal), driver: Driver<S>) {
+// The partition of the volume's second copy.
+fn second<S: Shelf>(driver: &Driver<S>) -> Option<Pp> {
+    let row = driver.descriptor().lvs.as_slice().first()?;
+    row.map.as_slice().get(1).copied()
+}
+
+// The move is committed where it is asked for, and else given up.
+fn move_beside_writes<S: Shelf + Drop>(
+    rt: &(impl Abort + AllocGlobal),
+    driver: Driver<S>,
+    commits: bool,
+) {
     let mut driver = driver;
     does(
         rt,
@@ -76,8 +106,16 @@ fn move_beside_writes<S: Shelf + Drop>(rt: &(impl Abort + AllocGlobal), driver: 
     );
     begin_move(rt, &mut driver);
     write_all(rt, &mut driver);
-    play(rt, &mut driver, &AT_END);
+    play(rt, &mut driver, &UNTIL_DONE);
+    if commits {
+        check(rt, commit(rt, &mut driver, 1_000) == Ok(()), "committed");
+    } else {
+        does(rt, &mut driver, "given up", Step::Close(CopyState::Done));
+    }
     check(rt, !driver.is_moving(), "none moves again");
+    let place = if commits { FREE } else { Pp { disk: 1, pp: 0 } };
+    check(rt, second(&driver) == Some(place), "where it stands");
+    play(rt, &mut driver, &BEHIND);
     stands(rt, &mut driver);
     close(rt, driver);
 }
@@ -93,7 +131,8 @@ fn a_copy_moves_beside_writes(rt: HostRuntime) {
                 pool: *pool,
                 ..MIRROR
             };
-            move_beside_writes(&rt, begin(&rt, &setup, &[]));
+            move_beside_writes(&rt, begin(&rt, &setup, &[]), false);
+            move_beside_writes(&rt, begin(&rt, &setup, &[]), true);
         }
     }
 }
@@ -128,6 +167,117 @@ fn a_move_ends_with_its_disk(rt: HostRuntime) {
     for turns in 0..30 {
         ends_with_its_disk(&rt, begin(&rt, &MIRROR, &[]), turns);
     }
+}
+
+// Behind the end of the session the move is closed, and what waited has landed so.
+fn has_ended<S: Shelf + Drop>(rt: &impl Abort, driver: Driver<S>, how: Taken) {
+    let mut driver = driver;
+    does(rt, &mut driver, "closed", Step::Copy(CopyState::Closed));
+    does(rt, &mut driver, "landed", Step::Take(1, how));
+    check(
+        rt,
+        second(&driver) == Some(Pp { disk: 1, pp: 0 }),
+        "where it stood",
+    );
+    close(rt, driver);
+}
+
+// A write waits for a move that is done.
+fn done_beside_write<S: Shelf>(rt: &(impl Abort + AllocGlobal), driver: &mut Driver<S>) {
+    begin_move(rt, driver);
+    does(rt, driver, "all is done", Step::Drain(Ok(())));
+    does(rt, driver, "taken", Step::Write(1, 9, Ok(1)));
+}
+
+// Without the votes of the first two disks it isn't committed.
+#[test]
+fn a_commit_goes_off_without_votes(rt: HostRuntime) {
+    let mut driver = begin(&rt, &MIRROR, &[]);
+    done_beside_write(&rt, &mut driver);
+    does(&rt, &mut driver, "fails", Step::Order(Arrange::Fail(0)));
+    does(&rt, &mut driver, "fails", Step::Order(Arrange::Fail(1)));
+    let went = commit(&rt, &mut driver, 1_000);
+    let off = CommitFault::WentOff { have: 1, total: 3 };
+    check(&rt, went == Err(off), "off");
+    has_ended(&rt, driver, Taken::Off);
+}
+
+// Where one disk fails it is committed by the other two, and the copies on it are stale.
+#[test]
+fn a_commit_outlives_a_disk(rt: HostRuntime) {
+    for disk in 0..3 {
+        let mut driver = begin(&rt, &MIRROR, &[]);
+        done_beside_write(&rt, &mut driver);
+        does(&rt, &mut driver, "fails", Step::Order(Arrange::Fail(disk)));
+        check(&rt, commit(&rt, &mut driver, 1_000) == Ok(()), "committed");
+        check(&rt, second(&driver) == Some(FREE), "where it stands");
+        does(&rt, &mut driver, "goes on", Step::Drain(Ok(())));
+        does(&rt, &mut driver, "landed", Step::Take(1, Taken::Done));
+        does(&rt, &mut driver, "stale", Step::Stale(disk, disk != 1));
+        does(&rt, &mut driver, "stands", Step::Got(1, Ok(9)));
+        close(&rt, driver);
+    }
+}
+
+// How the commit ends, if it comes to it.
+fn commit_under<S: Shelf + Drop>(
+    rt: &(impl Abort + AllocGlobal),
+    driver: Driver<S>,
+    left: u32,
+) -> Option<Result<(), CommitFault>> {
+    let mut driver = driver;
+    begin_move(rt, &mut driver);
+    if drain(rt, &mut driver).is_err() {
+        return None;
+    }
+    does(rt, &mut driver, "taken", Step::Write(1, 9, Ok(1)));
+    let ended = commit(rt, &mut driver, left);
+    check(rt, !driver.is_moving(), "none moves");
+    if ended == Err(CommitFault::Dark) {
+        has_ended(rt, driver, Taken::Dark);
+    } else {
+        driver.close();
+    }
+    Some(ended)
+}
+
+// The power is cut at each call: that the commit has ended so, and that it hasn't.
+#[test]
+fn a_commit_in_the_dark(rt: HostRuntime) {
+    let mut dark = 0;
+    let mut done = 0;
+    for call in 1..120 {
+        let cut = [Planned {
+            call,
+            act: Act::Cut(call),
+        }];
+        match commit_under(&rt, begin(&rt, &MIRROR, &cut), 1_000) {
+            None => {}
+            Some(Ok(())) => done += 1,
+            Some(Err(why)) => {
+                check(&rt, why == CommitFault::Dark, "dark");
+                dark += 1;
+            }
+        }
+    }
+    check(&rt, dark >= 6, "at each transfer of it");
+    check(&rt, done >= 1, "done before the cut");
+}
+
+// Nothing is heard of a transfer of it, with no patience.
+#[test]
+fn a_commit_is_given_up_without_patience(rt: HostRuntime) {
+    let mut stuck = 0;
+    for call in 1..120 {
+        let delay = [Planned {
+            call,
+            act: Act::Delay(2),
+        }];
+        if commit_under(&rt, begin(&rt, &MIRROR, &delay), 0) == Some(Err(CommitFault::Stuck)) {
+            stuck += 1;
+        }
+    }
+    check(&rt, stuck >= 3, "at each start of it");
 }
 
 // What is asked for, and why it isn't opened.

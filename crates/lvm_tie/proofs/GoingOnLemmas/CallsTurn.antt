@@ -98,4 +98,4 @@ close_goes_on run s new sound closes = goes_still run s (state s.device new) (λ
 -- ---- orders
 
 pub arrange_goes_on : ArrangeGoesOn
-arrange_goes_on run old new what done was_sound sound order first good = (order_ties run first old new what done good sound order, order_goes_on run first old new what done was_sound good order)
+arrange_goes_on run old new what done unstuck was_sound sound order first good = (order_ties run first old new what done good sound order, order_goes_on run first old new what done unstuck was_sound good order)

@@ -220,9 +220,9 @@ module _ (old new : State) (what : Arrange) (done : Bool) (it : ArrangesSession 
   stays : StaysOf old.core new.core
   stays = calls_stay.arrange old new what done it
 
-  order_leaves : IsSound old → IsSound new → LeavesSession old new
-  order_leaves was_sound sound = record {
-    good = arrange_goes_on old.core.history.run old new what done was_sound sound it;
+  order_leaves : (old.core.power ≡ power.Stuck → ⊥) → IsSound old → IsSound new → LeavesSession old new
+  order_leaves unstuck was_sound sound = record {
+    good = arrange_goes_on old.core.history.run old new what done unstuck was_sound sound it;
     descriptors = λ outside.
         let both = order_descriptors outside in
         record { leaves = both.0; spares = calls_spare_descriptors.arrange old new what done outside it; finds = both.1 };
@@ -280,5 +280,5 @@ calls_run_on = record {
       let left = move_leaves counts s.core new lv lp number to answer gives in
       call_leaves_but s new (open_move_goes_on s.core.history.run s new counts lv lp number to answer sound gives) (calls_spare_descriptors.open_move counts lv lp number to answer s new gives)
       (calls_stay.open_move counts lv lp number to answer s.core new gives) (λ first has. calls_keep_causes.open_move counts lv lp number to answer first s new gives has) left.origin left.rest;
-  arrange = λ old new what done was_sound sound it. order_leaves old new what done it was_sound sound;
+  arrange = λ old new what done unstuck was_sound sound it. order_leaves old new what done it unstuck was_sound sound;
 }

@@ -47,27 +47,27 @@ quiet_cut run first device log os over span =
     by true = quiet_goes_on run first device log.facts Cut span tt (λ past begins holds. tt)
     by false = span
 
-all_landed : (s : State) (p : Power) → s.core.power ≡ p → (p ≡ power.On → ⊥) → IsSound s → AllByRecursion IsLanded s.core.requests
-all_landed s power.On is not_on sound = absurd (not_on refl)
-all_landed s power.Off is not_on sound = (sound.over (ap Rattle.lvm_session.specs.Causes.is_over is)).landed
-all_landed s power.Dark is not_on sound = (sound.over (ap Rattle.lvm_session.specs.Causes.is_over is)).landed
-all_landed s power.Stuck is not_on sound = subst (λ (os : List Open). AllByRecursion IsLanded os) (sym (sound.stuck is).requests) tt
+all_landed : (s : State) (p : Power) → s.core.power ≡ p → (p ≡ power.On → ⊥) → (p ≡ power.Stuck → ⊥) → IsSound s → AllByRecursion IsLanded s.core.requests
+all_landed s power.On is not_on unstuck sound = absurd (not_on refl)
+all_landed s power.Off is not_on unstuck sound = (sound.over (ap Rattle.lvm_session.specs.Causes.is_over is)).landed
+all_landed s power.Dark is not_on unstuck sound = (sound.over (ap Rattle.lvm_session.specs.Causes.is_over is)).landed
+all_landed s power.Stuck is not_on unstuck sound = absurd (unstuck refl)
 
 -- ---- spans
 
-cut_follows : (run : ℕ) (first : Moment) (old : State) (device : Device) (p : Power) → old.core.power ≡ p → IsSound old → IsGood run first old → LeavesNoMore old.device device → Keeps run first (at device old.core.history.facts)
+cut_follows : (run : ℕ) (first : Moment) (old : State) (device : Device) (p : Power) → old.core.power ≡ p → (p ≡ power.Stuck → ⊥) → IsSound old → IsGood run first old → LeavesNoMore old.device device → Keeps run first (at device old.core.history.facts)
     → Keeps run first (at device (all_dark old.core).history.facts)
-cut_follows run first old device power.On is sound good leaves span = darkness_goes_on run first old device is good leaves span
-cut_follows run first old device power.Off is sound good leaves span = quiet_cut run first device old.core.history old.core.requests (all_landed old power.Off is (λ e. cc e) sound) span
-cut_follows run first old device power.Dark is sound good leaves span = quiet_cut run first device old.core.history old.core.requests (all_landed old power.Dark is (λ e. cc e) sound) span
-cut_follows run first old device power.Stuck is sound good leaves span = quiet_cut run first device old.core.history old.core.requests (all_landed old power.Stuck is (λ e. cc e) sound) span
+cut_follows run first old device power.On is unstuck sound good leaves span = darkness_goes_on run first old device is good leaves span
+cut_follows run first old device power.Off is unstuck sound good leaves span = quiet_cut run first device old.core.history old.core.requests (all_landed old power.Off is (λ e. cc e) unstuck sound) span
+cut_follows run first old device power.Dark is unstuck sound good leaves span = quiet_cut run first device old.core.history old.core.requests (all_landed old power.Dark is (λ e. cc e) unstuck sound) span
+cut_follows run first old device power.Stuck is unstuck sound good leaves span = absurd (unstuck refl)
 
 gives_leaves : (old new : Device) (what : Arrange) (done : Bool) → ArrangeGives old new what done → LeavesNoMore old new
 gives_leaves old new what true gives = arrange_leaves old new what gives.1
 gives_leaves old new what false gives = λ image may. subst (λ (d : Device). Rattle.lvm_disk.specs.Device.MayLeave d image) gives.1 may
 
 pub order_goes_on : OrderGoesOn
-order_goes_on run first old new what done sound good order span =
+order_goes_on run first old new what done unstuck sound good order span =
     let leaves : LeavesNoMore old.device new.device = gives_leaves old.device new.device what done order.device in
     let moved : Keeps run first (at new.device old.core.history.facts) =
     shelf_goes_on run first old.device new.device old.core.history.facts leaves (arrange_step old.device new.device what done order.device) span in
@@ -77,7 +77,7 @@ order_goes_on run first old new what done sound good order span =
     by false what leaves moved = moved
     by true (arrange.Fail disk) leaves moved = moved
     by true (arrange.Heal disk) leaves moved = moved
-    by true (arrange.Cut word) leaves moved = cut_follows run first old new.device old.core.power refl sound good leaves moved
+    by true (arrange.Cut word) leaves moved = cut_follows run first old new.device old.core.power refl unstuck sound good leaves moved
 
 -- ---- the tie
 

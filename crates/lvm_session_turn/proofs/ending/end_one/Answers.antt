@@ -21,7 +21,7 @@ darken-requires g c = may_end (core_of c.args.session.now) (c.requires.sound.on 
 
 pub returns-in-Ended-clause-due : goal.returns-in-Ended-clause-due
 returns-in-Ended-clause-due g c =
-    c.ended.ensures (core_of c.args.session.now) c.in-Ended.at c.in-Ended.buf (c.requires.sound.on c.requires.on).going c.is_quiet_for-quiet.ensures c.learn.ensures.learns c.requires.due
+    c.ended.ensures (core_of c.args.session.now) c.in-Ended.at c.in-Ended.buf (c.requires.sound.on c.requires.on).going (c.is_quiet_for-quiet.ensures (c.requires.sound.on c.requires.on).going) c.learn.ensures.learns c.requires.due
 
 pub returns-in-Dark-clause-due : goal.returns-in-Dark-clause-due
 returns-in-Dark-clause-due g c = let long = c.len.ensures in c.all.ensures (core_of c.darken.new.session) (omega (arith, long))

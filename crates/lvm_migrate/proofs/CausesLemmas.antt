@@ -1,0 +1,260 @@
+-- Why no more copies have moved.
+use Rattle.std.proofs.Common.{◌≡◌, ◌⊎◌, inl, inr, ◌≤◌, ◌+◌, ◌-◌, ◌||◌, ℕ, Bool, true, false, List, Option, None, Some, if◌then◌else◌, length, slice_index_or, refl, sym, ap, subst, ◌∙◌, arith}
+use Rattle.std.specs.Prelude.{IfErr, IfSome, Ok, Err, Result, nat_lt}
+use Rattle.std.specs.Option.{option_map_or}
+use Rattle.lvm_num.specs.declared.place.Pp.{Pp}
+use Rattle.lvm_num.specs.declared.descriptor.LvRow.{LvRow}
+use Rattle.lvm_num.specs.declared.descriptor.Descriptor.{Descriptor}
+use Rattle.lvm_num.specs.Descriptor.{IsValid, copies_of, volume_of}
+use Rattle.lvm_num.specs.DescriptorBytes.{descriptor_bytes}
+use Rattle.lvm_num.specs.Votes.{total_votes, votes_in}
+use Rattle.lvm_disk.specs.Counts.{Rose, RoseBy}
+use Rattle.lvm_disk.specs.Device.{Device}
+use Rattle.lvm_disk.specs.Paths.{Here, Path, Then}
+use Rattle.lvm_disk.proofs.CountingLemmas.{rose_after, rose_before}
+use Rattle.lvm_status.specs.Update.{members_there}
+use Rattle.lvm_commit.specs.declared.commit.CommitEnd.{CommitEnd}
+use Rattle.lvm_commit.specs.declared.commit.CommitEnd.TheVariants as commit_end
+use Rattle.lvm_commit.specs.Settling.{DescriptorEnds}
+use Rattle.lvm_core.specs.declared.fault.CommitFault.{CommitFault}
+use Rattle.lvm_core.specs.declared.fault.CommitFault.TheVariants as commit
+use Rattle.lvm_core.proofs.CommittingLemmas.Spanning.{path_falls}
+use Rattle.lvm_move.specs.Moving.{CommitsMove, Misses, MoveEnds, Writes, WritesMove}
+use Rattle.lvm_session.specs.declared.answers.CopyState.{CopyState}
+use Rattle.lvm_session.specs.declared.answers.CopyState.TheVariants as copy
+use Rattle.lvm_session.specs.declared.answers.OpenFault.{OpenFault}
+use Rattle.lvm_session.specs.declared.answers.OpenFault.TheVariants as denial
+use Rattle.lvm_session.specs.declared.bringing.CopyEnd.{CopyEnd}
+use Rattle.lvm_session.specs.declared.bringing.CopyEnd.TheVariants as ending
+use Rattle.lvm_session.specs.declared.bringing.OpenCopy.{OpenCopy}
+use Rattle.lvm_session.specs.declared.open.Power.TheVariants as power
+use Rattle.lvm_session.specs.declared.origin.Origin.{Origin}
+use Rattle.lvm_session.specs.Bringing.{is_out}
+use Rattle.lvm_session.specs.Calls.{OpensMove, closed, copy_at, copy_state, is_still_aimed, state_at_end, state_of_copy}
+use Rattle.lvm_session.specs.Causes.{FailedSinceOpening, HaveSourcesFailed, IsCausedAmong, OwnFailedSinceOpening, faults_at_first, faults_at_opening, own_faults}
+use Rattle.lvm_session.specs.Judging.{copies_in, is_move_done}
+use Rattle.lvm_session.specs.Sound.{IsSound}
+use Rattle.lvm_session.specs.State.{Core, State, votes_there}
+use Rattle.lvm_due.proofs.DescriptorLemmas.Members.{few_in}
+use Rattle.lvm_keeps_events.specs.passed.Names.{counts_seen, faults_seen}
+use Rattle.lvm_keeps_events.proofs.OpeningLemmas.Opening.{at_place, counted_at, last_count}
+use Rattle.lvm_going.specs.Going.{CommitsOpenMove, closed_after}
+use Rattle.lvm_going.proofs.FramesLemmas.{turn_frame}
+use Rattle.lvm_driver.specs.Answers.{IsCopyCaused}
+use Rattle.lvm_driver.specs.Drains.{DrainEnds, IsAny, IsDrained, IsTurn}
+use Rattle.lvm_move_plan.specs.declared.plan.PlannedMove.{PlannedMove}
+use Rattle.lvm_ranges.specs.Causes.{AnyFails}
+use Rattle.lvm_ranges.specs.Passing.{IsSameCopy}
+use Rattle.lvm_migrate.specs.declared.fault.MoveFault.{MoveFault}
+use Rattle.lvm_migrate.specs.declared.fault.MoveFault.TheVariants as fault
+use Rattle.lvm_migrate.specs.Faults.{IsOfOpening, commit_fault_is, opening_fault_is}
+use Rattle.lvm_migrate.specs.Migrating.{GoesBesideMoving, MoveCause}
+use Rattle.lvm_migrate.specs.Moving.{CommitGives, CommitsIt, GivesItUp, IsAnswerOf, Opens, ended_fault, fault_of_move}
+use Rattle.lvm_migrate.proofs.CommittedLemmas.{IsWrittenWell, opens as opens_of, written_well}
+use Rattle.lvm_migrate.proofs.OpeningLemmas.{FewNumbers, ItsDiskIsMissing, NoneIsUsable, SessionIsDark, SessionIsOff, StandsAgainstIt, opened_fine}
+use Rattle.lvm_migrate.proofs.TurnsLemmas.{IsOpenMove}
+
+-- ---- what stays, and what never falls
+
+-- the disks are as large, as many transfers had failed when the session began, and no count of faults has fallen
+pub record IsLater (old new : State) : Type 0 where
+  pub sizes : new.device.sizes ≡ old.device.sizes
+  pub began : new.core.origin.faults ≡ old.core.origin.faults
+  pub faults : (d : ℕ) → old.device.counts.faults d ≤ new.device.counts.faults d
+
+pub later_same : (s : State) → IsLater s s
+later_same s = record { sizes = refl; began = refl; faults = λ d. omega arith }
+
+pub later_both : (old mid new : State) → IsLater old mid → IsLater mid new → IsLater old new
+later_both old mid new one two = record { sizes = two.sizes ∙ one.sizes; began = two.began ∙ one.began; faults = λ d. let a = one.faults d in let b = two.faults d in omega (arith, a, b) }
+
+-- by a call, which makes no transfer
+later_call : (old new : State) → new.device ≡ old.device → new.core.origin.faults ≡ old.core.origin.faults → IsLater old new
+later_call old new same began = record { sizes = ap (λ (d : Device). d.sizes) same; began = began; faults = λ d. subst (λ (x : Device). old.device.counts.faults d ≤ x.counts.faults d) (sym same) (omega arith) }
+
+later_turns : {P : State → Type 0} {first last : State} → Path IsTurn P first last → IsLater first last
+later_turns {first = first} (Here here) = later_same first
+later_turns {first = first} {last = last} (Then {m = mid} path turn there) =
+    let frame = turn_frame mid last turn.0 turn.1 in
+    later_both first mid last (later_turns path) (record { sizes = frame.keeps.sizes; began = ap (λ (o : Origin). o.faults) frame.keeps.origin; faults = frame.keeps.counts.faults })
+
+module _ (m : PlannedMove) (old mid : State) (opens : Opens old mid m (Ok tt)) where
+  made : OpensMove (counts_seen old.device old.core) old.core mid.core m.copy.lv m.copy.lp m.copy.number m.to
+  made = (opened_fine (counts_seen old.device old.core) old.core mid.core m opens.1).1
+
+  later_opened : IsLater old mid
+  later_opened = later_call old mid opens.2 made.called.faults
+
+-- one that has moved
+pub later_moved : (m : PlannedMove) (patience left : ℕ) (old new : State) → CommitGives m patience left old new (Ok tt) → IsLater old new
+later_moved m patience left old new gives =
+    later_both old gives.turns.opened new (later_opened m old gives.turns.opened (opens_of m patience left old new gives))
+    (later_both gives.turns.opened gives.ended new (later_turns gives.turns.turns) committed)
+  where
+    it : CommitsOpenMove gives.between left gives.ended new (Ok tt)
+    it = gives.commits
+
+    well : IsWrittenWell gives.between left gives.ended new it
+    well = written_well gives.between left gives.ended new it
+
+    device_is : new.device ≡ it.written.device
+    device_is = ap (λ (s : State). s.device) it.is
+
+    committed : IsLater gives.ended new
+    committed = record {
+      sizes = ap (λ (d : Device). d.sizes) device_is ∙ well.w.leaves.keeps.sizes;
+      began = ap (λ (s : State). s.core.origin.faults) it.is ∙ ap (λ (c : Core). c.origin.faults) well.goes.is;
+      faults = λ d. subst (λ (x : Device). gives.ended.device.counts.faults d ≤ x.counts.faults d) (sym device_is) ((path_falls gives.ended.device it.written.device well.w.kept).faults d);
+    }
+
+-- ---- what has failed
+
+-- what is seen of the counts never falls
+seen_more : (old new : State) → IsLater old new → (d : ℕ) → faults_seen old.device old.core d ≤ faults_seen new.device new.core d
+seen_more old new it d = subst (λ (l : List ℕ). faults_seen old.device old.core d ≤ (if nat_lt d (length l) then new.device.counts.faults d else faults_at_first new.core d)) (sym it.sizes) (by (nat_lt d (length old.device.sizes)))
+  where
+    first_same : faults_at_first new.core d ≡ faults_at_first old.core d
+    first_same = ap (λ (fs : List ℕ). slice_index_or fs d 0) it.began
+
+    by : (b : Bool) → (if b then old.device.counts.faults d else faults_at_first old.core d) ≤ (if b then new.device.counts.faults d else faults_at_first new.core d)
+    by true = it.faults d
+    by false = omega (arith, first_same)
+
+fails_later : (old mid new : State) → IsLater old mid → AnyFails mid new → AnyFails old new
+fails_later old mid new since fails = (fails.0, rose_before (seen_more old mid since fails.0) fails.1)
+
+-- one that has ended as failed, and rests
+failed_end : (core : Core) (c : OpenCopy) (disk : ℕ) → state_of_copy core c ≡ copy.SyncFailed disk → c.end ≡ Some ending.SyncFailed
+failed_end core c disk e = by (is_out c.step || is_still_aimed core c) (is_move_done core c) c.end refl e
+  where
+    by : (b d : Bool) (m : Option CopyEnd) → c.end ≡ m → (if b then copy.Running c.cursor else if d then copy.Done else option_map_or (state_at_end c) m (copy.Running c.cursor)) ≡ copy.SyncFailed disk → c.end ≡ Some ending.SyncFailed
+    by true d m is f = absurd (cc f)
+    by false true m is f = absurd (cc f)
+    by false false None is f = absurd (cc f)
+    by false false (Some ending.Done) is f = absurd (cc f)
+    by false false (Some ending.SyncFailed) is f = is
+    by false false (Some ending.NoFresh) is f = absurd (cc f)
+    by false false (Some ending.Ended) is f = absurd (cc f)
+
+module _ (m : PlannedMove) (old mid ended : State) (opens : Opens old mid m (Ok tt)) (valid : IsValid old.core.descriptor) (turns : Path IsTurn IsAny mid ended) (begun : OpenCopy)
+    (begun_faults : begun.faults ≡ Rattle.lvm_session.specs.Calls.faults_of (counts_seen old.device old.core) (copies_of (made m old mid opens).row m.copy.lp) m.to) (begun_pp : begun.pp ≡ m.to)
+    (begun_lv : begun.lv ≡ m.copy.lv) (begun_lp : begun.lp ≡ m.copy.lp) (still : IsOpenMove begun ended.core) (disk : ℕ) (how : copy_state ended.core ≡ copy.SyncFailed disk) (its_cause : IsCopyCaused ended) where
+  abbrev pps : List Pp
+  pps = copies_of (made m old mid opens).row m.copy.lp
+
+  abbrev k : OpenCopy
+  k = still.copy
+
+  its_copies : copies_in old.core.descriptor m.copy.lv m.copy.lp ≡ pps
+  its_copies = ap (λ (o : Option LvRow). option_map_or (λ (r : LvRow). copies_of r m.copy.lp) o []) (made m old mid opens).volume
+
+  few : length pps ≤ 3
+  few = subst (λ (ps : List Pp). length ps ≤ 3) its_copies (few_in old.core.descriptor m.copy.lv m.copy.lp valid)
+
+  same_group : ended.core.descriptor ≡ old.core.descriptor
+  same_group = turns_group turns ∙ ap (λ (c : Core). c.descriptor) (made m old mid opens).is
+    where
+      turns_group : {P : State → Type 0} {first last : State} → Path IsTurn P first last → last.core.descriptor ≡ first.core.descriptor
+      turns_group (Here here) = refl
+      turns_group {last = last} (Then {m = mid} path turn there) = (turn_frame mid last turn.0 turn.1).keeps.descriptor ∙ turns_group path
+
+  its_own : copies_in ended.core.descriptor k.lv k.lp ≡ pps
+  its_own = (λ t. copies_in (same_group t) ((still.its.1 ∙ begun_lv) t) ((still.its.2 ∙ begun_lp) t)) ∙ its_copies
+
+  rose : (n : ℕ) (p : Pp) → copy_at pps n ≡ Some p → FailedSinceOpening ended.device k n p → AnyFails old ended
+  rose n p at since = (p.disk, subst (λ (x : ℕ). Rose x (ended.device.counts.faults p.disk)) seen since)
+    where
+      seen : faults_at_opening k n ≡ faults_seen old.device old.core p.disk
+      seen = ap (λ (fs : List ℕ). slice_index_or fs (n - 1) 0) (still.its.4 ∙ begun_faults) ∙ counted_at (counts_seen old.device old.core) pps m.to (n - 1) p few (at_place pps n p at)
+
+  own_rose : OwnFailedSinceOpening ended.device k → AnyFails old ended
+  own_rose since = (k.pp.disk, subst (λ (x : ℕ). Rose x (ended.device.counts.faults k.pp.disk)) seen since)
+    where
+      seen : own_faults k ≡ faults_seen old.device old.core k.pp.disk
+      seen = ap (λ (fs : List ℕ). slice_index_or fs 3 0) (still.its.4 ∙ begun_faults) ∙ last_count (counts_seen old.device old.core) pps m.to
+          ∙ ap (λ (p : Pp). faults_seen old.device old.core p.disk) (sym (still.its.0 ∙ begun_pp))
+
+  caused : IsCausedAmong ended (copies_in ended.core.descriptor k.lv k.lp) k
+  caused = subst (λ (o : Option OpenCopy). IfSome o (λ (x : OpenCopy). IsCausedAmong ended (copies_in ended.core.descriptor x.lv x.lp) x)) still.is_open its_cause
+
+  pub move_failed : AnyFails old ended
+  move_failed = by (caused.failed (failed_end ended.core k disk (sym (ap (λ (o : Option OpenCopy). option_map_or (state_of_copy ended.core) o copy.Closed) still.is_open) ∙ how)))
+    where
+      by : OwnFailedSinceOpening ended.device k ⊎ HaveSourcesFailed ended (copies_in ended.core.descriptor k.lv k.lp) k → AnyFails old ended
+      by (inl own) = own_rose own
+      by (inr sources) = rose sources.number sources.source (ap (λ (ps : List Pp). copy_at ps sources.number) (sym its_own) ∙ sources.source_is) sources.one
+
+-- ---- why one is the last
+
+-- it isn't opened
+pub cause_unopened : (patience : ℕ) (m : PlannedMove) (copies : List Pp) (old new : State) (why : MoveFault) → ((denied : OpenFault) → fault_of_move old.core m ≡ Some denied → StandsAgainstIt old.core m copies denied)
+    → Opens old new m (Err why) → MoveCause patience old new why
+cause_unopened patience m copies old new why against opens = subst (MoveCause patience old new) (sym opens.1.3) (by opens.1.0 opens.1.1 opens.1.2)
+  where
+    off : ℕ × ℕ
+    off = (votes_there old.core, total_votes old.core.descriptor)
+
+    so : (denied : OpenFault) → StandsAgainstIt old.core m copies denied → MoveCause patience old old (opening_fault_is denied m.copy.lp off)
+    so denial.Dark (SessionIsDark is) = is
+    so denial.Off (SessionIsOff is) = (is, refl, refl)
+    so (denial.Missing disk) (ItsDiskIsMissing is) = is
+    so denial.NoFresh (NoneIsUsable is) = tt
+    so denial.HistoryFull (FewNumbers is) = is
+
+    moved : (denied : OpenFault) → fault_of_move old.core m ≡ Some denied → MoveCause patience old new (opening_fault_is denied m.copy.lp off)
+    moved denied is = subst (λ (s : State). MoveCause patience old s (opening_fault_is denied m.copy.lp off)) (sym opens.0) (so denied (against denied is))
+
+    by : (denied : OpenFault) → IsOfOpening denied → Rattle.lvm_migrate.specs.Moving.IsDeniedBy old.core m denied → MoveCause patience old new (opening_fault_is denied m.copy.lp off)
+    by denial.Dark of is = moved denial.Dark is
+    by denial.Off of is = moved denial.Off is
+    by (denial.Missing disk) of is = moved (denial.Missing disk) is
+    by denial.NoFresh of is = moved denial.NoFresh is
+    by denial.HistoryFull of is = moved denial.HistoryFull is
+    by denial.Memory of is = tt
+    by denial.Busy of is = absurd of
+    by denial.NoVolume of is = absurd of
+    by denial.OutOfRange of is = absurd of
+    by denial.InUse of is = absurd of
+
+-- the turns break off
+pub cause_turns : (patience left : ℕ) (old mid new : State) (why : CommitFault) → GoesBesideMoving old new patience left → DrainEnds left new (Err why) → MoveCause patience old new (commit_fault_is why)
+cause_turns patience left old mid new commit.Dark beside ends = ends
+cause_turns patience left old mid new (commit.WentOff have total) beside ends = (ends.power_is, ends.have_is, ends.total_is)
+cause_turns patience left old mid new commit.Stuck beside ends =
+    let all : patience - left ≡ patience = omega (arith, ends) in
+    subst (λ (n : ℕ). RoseBy n old.device.counts.waits new.device.counts.waits) all beside.waited
+cause_turns patience left old mid new (commit.DiskFailed disk) beside ends = absurd ends
+
+-- the commit does
+rose_by_both : {m n a b c : ℕ} → RoseBy m a b → RoseBy n b c → RoseBy (m + n) a c
+rose_by_both one two = record { later = omega (arith, one.later, two.later); risen = omega (arith, one.risen, two.risen, one.later, two.later) }
+
+module _ (patience between left : ℕ) (old ended new : State) (sound : IsSound ended) (beside : GoesBesideMoving old ended patience between) where
+  cause_commit : (why : CommitFault) → CommitsOpenMove between left ended new (Err why) → MoveCause patience old new (commit_fault_is why)
+  cause_commit why it = of it.commits
+    where
+      fails : Type 0
+      fails = MoveCause patience old new (commit_fault_is why)
+
+      done_not : {X : Type 0} → Err why ≡ Ok tt → X
+      done_not e = absurd (cc e)
+
+      device_is : new.device ≡ it.written.device
+      device_is = ap (λ (s : State). s.device) it.is
+
+      as : {u : CommitFault} → Err why ≡ Err u → MoveCause patience old new (commit_fault_is u) → MoveCause patience old new (commit_fault_is why)
+      as {u} e cause = let same : why ≡ u = cc e in subst (λ (x : CommitFault). MoveCause patience old new (commit_fault_is x)) (sym same) cause
+
+      core_of : (u : CommitFault) → why ≡ u → new.core ≡ closed_after (Err u) it.written.core
+      core_of u same = ap (λ (s : State). s.core) it.is ∙ ap (λ (x : CommitFault). closed_after (Err x) it.written.core) same
+
+      of : CommitsMove it.next (descriptor_bytes it.next) between left ended it.written (Err why) → MoveCause patience old new (commit_fault_is why)
+      of (Misses disk missing is same patience_is) = as is ?
+      of (Writes there w) = by w.how w.ends w.goes
+        where
+          by : (end : CommitEnd) → DescriptorEnds (descriptor_bytes it.next) 0 between ended.core.status w.last ended.core.homes w.homes ended.device it.written.device end → MoveEnds it.next w.last w.homes ended.core it.written.core end (Err why)
+              → MoveCause patience old new (commit_fault_is why)
+          by (commit_end.Done back) ends goes = done_not goes.0
+          by (commit_end.WentOff have total back) ends goes = as goes.0 ?
+          by commit_end.Dark ends goes = as goes.0 ?
+          by commit_end.Stuck ends goes = as goes.0 ?

@@ -1,0 +1,9 @@
+//! Copies leave a disk of a group that is on for another one, beside the requests that are open.
+#![tactic(auto)]
+
+mod fault;
+mod migrate;
+mod moving;
+
+pub use fault::MoveFault;
+pub use migrate::migrate;

@@ -1,0 +1,4 @@
+pub mod Standing
+pub mod Planned
+pub mod Laws
+pub mod Worked

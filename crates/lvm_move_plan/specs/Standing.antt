@@ -1,0 +1,58 @@
+-- The copies that stand on a disk.
+use Rattle.std.specs.Prelude.{◌≡◌, ◌⊎◌, ℕ, ◌+◌, ◌<◌, Bool, true, false, ◌==◌, if◌then◌else◌, List, [], ◌∷◌, flat_map, Option, Some, None, slice_get}
+use Rattle.std.specs.List.{range_with_len}
+use Rattle.std.specs.Option.{option_map_or}
+use Rattle.lvm_num.specs.declared.place.Pp.{Pp}
+use Rattle.lvm_num.specs.declared.descriptor.LvRow.{LvRow}
+use Rattle.lvm_num.specs.declared.descriptor.Descriptor.{Descriptor}
+use Rattle.lvm_num.specs.Descriptor.{copies_of, volume_of}
+use Rattle.lvm_move_plan.specs.declared.standing.VolumeCopy.{VolumeCopy}
+
+-- ---- the list
+
+-- whether there is such a partition, on the disk
+abbrev pub is_on : ℕ → Option Pp → Bool
+is_on disk pp = option_map_or (λ (p : Pp). p.disk == disk) pp false
+
+-- a copy of a logical partition by its place, from 0, where it stands on the disk
+abbrev pub standing_at : ℕ → LvRow → ℕ → ℕ → List VolumeCopy
+standing_at disk row lp place = if is_on disk (slice_get (copies_of row lp) place) then record { lv = row.number; lp = lp; number = place + 1 } ∷ [] else []
+
+-- those of a logical partition
+abbrev pub standing_with : ℕ → LvRow → ℕ → List VolumeCopy
+standing_with disk row lp = flat_map (standing_at disk row lp) (range_with_len 0 row.copies)
+
+-- those of a volume
+abbrev pub standing_in : ℕ → LvRow → List VolumeCopy
+standing_in disk row = flat_map (standing_with disk row) (range_with_len 0 row.lps)
+
+-- whether the volume is the one of this number, where one is asked for
+abbrev pub is_asked_for : Option ℕ → LvRow → Bool
+is_asked_for None row = true
+is_asked_for (Some lv) row = row.number == lv
+
+-- those of a volume that is asked for
+abbrev pub standing_of : Option ℕ → ℕ → LvRow → List VolumeCopy
+standing_of lv disk row = if is_asked_for lv row then standing_in disk row else []
+
+-- those of all volumes that are asked for
+abbrev pub standing_on : Descriptor → Option ℕ → ℕ → List VolumeCopy
+standing_on d lv disk = flat_map (standing_of lv disk) d.lvs
+
+-- ---- what it has
+
+-- the copy is one of a volume that is asked for, on this partition of the disk
+pub record StandsOn (d : Descriptor) (lv : Option ℕ) (disk : ℕ) (c : VolumeCopy) : Type 0 where
+  pub row : LvRow
+  pub volume : volume_of d c.lv ≡ Some row
+  pub asked : is_asked_for lv row ≡ true
+  pub within : c.lp < row.lps
+  pub place : ℕ
+  pub number : c.number ≡ place + 1
+  pub pp : Pp
+  pub its : slice_get (copies_of row c.lp) place ≡ Some pp
+  pub there : pp.disk ≡ disk
+
+-- the one comes first: by the volume, the logical partition, the copy
+abbrev pub ComesBefore : VolumeCopy → VolumeCopy → Type 0
+ComesBefore a b = (a.lv < b.lv) ⊎ ((a.lv ≡ b.lv) × ((a.lp < b.lp) ⊎ ((a.lp ≡ b.lp) × (a.number < b.number))))
