@@ -16,9 +16,9 @@ use Rattle.lvm_session.specs.State.{State}
 use Rattle.lvm_keeps.proofs.KeepsLemmas.Losing.{loss_is_caused}
 use Rattle.lvm_going.specs.Going.{BeginsMove, CommitsItsMove, IsAny, Leaves, LeavesMoving, MovingStep}
 use Rattle.lvm_going.specs.Frames.{GoesOnOrEnds}
-use Rattle.lvm_going.specs.MovingFrames.{KeepsMovingFrame, MovesFrame}
+use Rattle.lvm_load.specs.MovingFrames.{KeepsMovingFrame, MovesFrame}
 use Rattle.lvm_going.proofs.GoingLemmas.{moving_keeps, moving_path_keeps}
-use Rattle.lvm_going.proofs.MovingFramesLemmas.{begin_leaves, commit_frame, moves_frame, moving_frame}
+use Rattle.lvm_load.proofs.MovingFramesLemmas.{begin_leaves, commit_frame, moves_frame, moving_frame}
 use Rattle.lvm_load.specs.Landing.{EntersWell, IsEnteredWell}
 use Rattle.lvm_load.specs.MovingLanding.{EntersOnWay, IsEnteredOnWay, RequestsLandOnWay}
 use Rattle.lvm_load.proofs.LandingLemmas.{append_all, enters_none, step_enters}

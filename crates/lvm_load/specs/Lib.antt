@@ -4,6 +4,7 @@ pub mod Landing
 pub mod Leaving
 pub mod Lending
 pub mod Loading
+pub mod MovingFrames
 pub mod MovingLanding
 pub mod Requests
 pub mod Serving

@@ -7,7 +7,7 @@ use Rattle.lvm_session.specs.Causes.{AnyFailedSince}
 use Rattle.lvm_session.specs.Sound.{IsSound}
 use Rattle.lvm_session.specs.State.{State}
 pub use Rattle.lvm_going.specs.Going.{LeavesMoving}
-pub use Rattle.lvm_going.specs.MovingFrames.{KeepsMovingFrame, MovesFrame}
+pub use Rattle.lvm_load.specs.MovingFrames.{KeepsMovingFrame, MovesFrame}
 use Rattle.lvm_load.specs.Landing.{IsEnteredWell}
 
 -- it has been entered well by the session as it was at some moment of its way, when some copies had moved

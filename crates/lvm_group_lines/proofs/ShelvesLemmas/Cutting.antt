@@ -134,7 +134,7 @@ module _ (log : Log) (word : ℕ) (old new : ScriptState) (between : IsBetween o
       facts = ap (λ (l : Log). l.facts) (sym history);
       volumes = λ none. more (on.empty none).quiet.requests;
       between = between;
-went = leaves_move_on begun end on.sound (order_leaves begun end (arrange.Cut word) true (unstuck_by core on.power) arranges);
+      went = leaves_move_on begun end on.sound (order_leaves begun end (arrange.Cut word) true (unstuck_by core on.power) arranges);
       sound = sound;
     }
 

@@ -29,8 +29,7 @@ use Rattle.lvm_session.specs.Calls.{OpenMoveGives, OpensMove, closed, move_fault
 use Rattle.lvm_session.specs.State.{Core, State, state}
 use Rattle.lvm_going.specs.Frames.{GoesOffByCut, GoesOnOrEnds, KeepsShape}
 use Rattle.lvm_going.specs.Going.{BeginsMove, CommitsItsMove, CommitsOpenMove, Leaves, MovingStep, closed_after}
-use Rattle.lvm_going.specs.MovingFrames.{KeepsMovingFrame, MovesFrame}
-use Rattle.lvm_going.proofs.FramesLemmas.{ends_on}
+use Rattle.lvm_load.specs.MovingFrames.{KeepsMovingFrame, MovesFrame}
 use Rattle.lvm_going.proofs.GoingLemmas.{step_shape}
 use Rattle.lvm_going.proofs.ShapesLemmas.{Given, dark_given}
 use Rattle.lvm_going.proofs.ShelvesLemmas.{cut_both, keeps_power}
@@ -235,6 +234,15 @@ pub moving_frame : (old new : State) → MovingStep old new → KeepsMovingFrame
 moving_frame old new (Leaves it) = of_shape old new (step_shape old new it)
 moving_frame old new (CommitsItsMove before after answer c drained epoch it) = (commit_frame before after old new answer drained.on it).keeps
 moving_frame old new (BeginsMove lv lp number to answer unstuck apart gives same) = begin_frame old new same (begin_leaves _ old new lv lp number to answer gives)
+
+ends_on : (old mid new : Core) → GoesOnOrEnds old mid → GoesOnOrEnds mid new → GoesOnOrEnds old new
+ends_on old mid new one (inr (inl dark)) = inr (inl dark)
+ends_on old mid new (inl one) (inl two) = inl (two ∙ one)
+ends_on old mid new (inl one) (inr (inr two)) = inr (inr (sym one ∙ two.0, two.1))
+ends_on old mid new (inr (inl one)) (inl two) = inr (inl (two ∙ one))
+ends_on old mid new (inr (inl one)) (inr (inr two)) = absurd (let e : power.Dark ≡ power.On = sym one ∙ two.0 in cc)
+ends_on old mid new (inr (inr one)) (inl two) = inr (inr (one.0, two ∙ one.1))
+ends_on old mid new (inr (inr one)) (inr (inr two)) = absurd (let e : power.Off ≡ power.On = sym one.1 ∙ two.0 in cc)
 
 stuck_on : (old mid new : Core) → GoesOnOrEnds old mid → mid.power ≡ power.On → old.power ≡ power.On
 stuck_on old mid new (inl same) on = sym same ∙ on
