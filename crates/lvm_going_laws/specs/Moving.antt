@@ -9,7 +9,7 @@ use Rattle.lvm_status.specs.Table.{has_row}
 use Rattle.lvm_session.specs.declared.open.Power.TheVariants as power
 use Rattle.lvm_session.specs.Sound.{IsSound}
 use Rattle.lvm_session.specs.State.{Core, State}
-use Rattle.lvm_going.specs.Going.{LeavesMoving, LeavesSession}
+pub use Rattle.lvm_going.specs.Going.{LeavesMoving, LeavesSession}
 use Rattle.lvm_tie.specs.GoingOn.{SessionGoesOn}
 use Rattle.lvm_tie.specs.Landings.{HasCausesSince}
 use Rattle.lvm_tie.specs.Running.{GoesOffByCut, GoesOnOrEnds, IsBefore, KeepsOrigin}

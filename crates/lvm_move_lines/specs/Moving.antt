@@ -8,7 +8,7 @@ use Rattle.lvm_session.specs.State.{Core, State}
 use Rattle.lvm_move_plan.specs.Planned.{planned_moves}
 use Rattle.lvm_migrate.specs.declared.fault.MoveFault.{MoveFault}
 use Rattle.lvm_migrate.specs.declared.fault.MoveFault.TheVariants as fault
-use Rattle.lvm_migrate.specs.Migrating.{GoesBesideMoving, IsLeftEmpty, MigrateGives, MoveCause, StandMoved}
+use Rattle.lvm_migrate.specs.Migrating.{GoesBesideMoving, IsLeftEmpty, MigrateGives, MoveCause, MovesAsPlanned, StandMoved}
 use Rattle.lvm_range_lines.specs.Leaving.{FailsIf, session_over}
 use Rattle.lvm_range_lines.specs.passed.GroupLines.{IsRefused, Refusal, Reply, ScriptState, is_unheard, patience_of_line}
 use Rattle.lvm_range_lines.specs.passed.RefusalVariants as refusal
@@ -56,6 +56,7 @@ pub record IsMigrated (lv : Option ℕ) (from to : ℕ) (core : Core) (old new :
   pub gives : MigrateGives lv from to patience_of_line left (session_over old core) end result
   pub stand : StandMoved (planned_moves core.descriptor lv from to) core.descriptor end.core.descriptor result
   pub beside : GoesBesideMoving (session_over old core) end patience_of_line left
+  pub way : MovesAsPlanned (planned_moves core.descriptor lv from to) (session_over old core) end
   pub empty : IfOk result (λ moved. IsLeftEmpty lv from end.core.descriptor)
   pub caused : IfErr result (MoveCause left (session_over old core) end)
   pub on : IfOk result (λ moved. end.core.power ≡ power.On)

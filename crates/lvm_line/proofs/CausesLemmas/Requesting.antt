@@ -187,7 +187,7 @@ module _ (old new : ScriptState) (between : IsBetween old.moment old.session old
       end = its.end
 
       moves : MovesOn (session_over old core) end
-      moves = moves_on old new between core end some its.beside.leaves
+      moves = moves_on old new between core end some its.way.leaves
 
       went : WentWithin old core end
       went = by_moves old core end moves
@@ -202,7 +202,7 @@ module _ (old new : ScriptState) (between : IsBetween old.moment old.session old
       told_off have total off have_is total_is is =
           told_by why _ old new (is ∙ ap (λ n. reply.Refused (refusal.WentOff n total)) have_is ∙ ap (λ n. reply.Refused (refusal.WentOff (votes_there end.core) n)) total_is) (told_easy (refusal.WentOff (votes_there end.core) (total_votes end.core.descriptor)) old new
           (went_off old new core end between went its.sound counts (votes_there end.core) (total_votes end.core.descriptor) some (off_votes end its.sound off)
-          (moved_votes_go (session_over old core) end moves.keeps.alike its.beside.loses (its.sound.off off))) (λ e. cc) (λ h t e. cc))
+          (moved_votes_go (session_over old core) end moves.keeps.alike its.way.loses (its.sound.off off))) (λ e. cc) (λ h t e. cc))
 
       by : (r : Result ℕ MoveFault) → IfErr r (MoveCause its.left (session_over old core) end) → reply.Refused why ≡ move_reply r → Told why old new
       by (Ok moved) caused is = absurd (cc (is))

@@ -100,7 +100,7 @@ module _ (run : ℕ) (old new : ScriptState) (between : IsBetween old.moment old
         end = its.end
 
         moves : MovesOn first_session end
-        moves = (going_moves_on first_session end was_sound its.beside.leaves).1
+        moves = (going_moves_on first_session end was_sound its.way.leaves).1
 
         carried_nothing : (p : Power) → CarriesBy p end old.posts old.last new → NothingNew end.device new.moment.device
         carried_nothing power.On is = same_nothing end.device new.moment.device (ap (λ (s : ScriptState). s.moment.device) is)
@@ -130,8 +130,8 @@ module _ (run : ℕ) (old new : ScriptState) (between : IsBetween old.moment old
         pub end_id : end.core.descriptor.id ≡ core.descriptor.id
         end_id = ap (λ (d : Descriptor). d.id) moves.keeps.alike
 
-        planned_at : (k : Descriptor) → IsOneOf (committed_on its.beside.leaves) k → IsOneOf (stages core.descriptor (planned_moves core.descriptor lv from to)) k
-        planned_at k one = all_of (committed_on its.beside.leaves) its.beside.planned k one
+        planned_at : (k : Descriptor) → IsOneOf (committed_on its.way.leaves) k → IsOneOf (stages core.descriptor (planned_moves core.descriptor lv from to)) k
+        planned_at k one = all_of (committed_on its.way.leaves) its.way.planned k one
 
         pub migrated_finds : (volume : Option (List ℕ)) → IsAsked core.descriptor volume from to lv → (id : ℕ) (k : Descriptor) → MayBeFound new.moment.device id k → MayBeFound old.moment.device id k ⊎ MayHaveCommitted (Ok (Some (command.Migratepv volume from to))) answer old new id k
         migrated_finds volume asked id k it = ⊎_elim
@@ -144,7 +144,7 @@ module _ (run : ℕ) (old new : ScriptState) (between : IsBetween old.moment old
               own = committed.0 ∙ sym (some_id core.descriptor lv from to k some_moved);
               is = subst (λ (o : Option Core). IsSomeAnd o (λ (c : Core). (n : Option ℕ) × IsAsked c.descriptor volume from to n × HasMovedSome c.descriptor n from to k)) (sym some) (lv, asked, some_moved);
             }))
-            (moves_find_theirs core.history.run may.first may.past first_session end its.beside.leaves was_sound between.descriptors good_first begun
+            (moves_find_theirs core.history.run may.first may.past first_session end its.way.leaves was_sound between.descriptors good_first begun
             ((stands_first may.past may.begins).spares volumes) id k (end_nothing id k it))
 
   -- what the line was to commit is a descriptor of the group

@@ -36,6 +36,7 @@ returns g c = λ bytes posts fits between stage its.
       gives = gives;
       stand = c.migrate-moved.ensures.stand;
       beside = beside;
+      way = c.migrate-moved.ensures.way;
       empty = c.migrate-moved.ensures.empty;
       caused = c.migrate-moved.ensures.caused;
       on = on_of end.1 result c.migrate-moved.ensures.closed;
