@@ -28,7 +28,7 @@ use Rattle.lvm_core.proofs.RecordLemmas.{descriptor_fits}
 use Rattle.lvm_keeps_events.specs.Telling.{SameRoom}
 use Rattle.lvm_keeps_events.proofs.passed.Names.{back_long, hands_long}
 use Rattle.lvm_move.specs.Moving.{CommitsMove, Misses, MoveEnds, Writes, missing_destination}
-use Rattle.lvm_move_keeps.specs.Drained.{IsDrainedMoving, MayCommitMove}
+use Rattle.lvm_move_keeps.specs.Drained.{IsDrainedMoving}
 use Rattle.lvm_move_keeps.specs.Keeping.{HasMovedTo}
 use Rattle.lvm_move_keeps.proofs.DrainedLemmas.{done_is_judged, done_may_commit, drained_is_done}
 use Rattle.lvm_move_keeps.proofs.StandsLemmas.{move_has_moved}
@@ -37,6 +37,7 @@ use Rattle.lvm_going.specs.Going.{CommitsItsMove, CommitsOpenMove, LeavesMoving,
 use Rattle.lvm_going.specs.Moves.{next_in, next_of}
 use Rattle.lvm_going.proofs.GoingLemmas.{moving_keeps}
 use Rattle.lvm_going.proofs.JoinsLemmas.{moving_one}
+use Rattle.lvm_driver.specs.Commits.{IsReadyMove}
 use Rattle.lvm_driver.specs.Drains.{IsDrained}
 use Rattle.lvm_driver.proofs.FieldsLemmas.{AreSound, Stay}
 use Rattle.lvm_driver.proofs.RoomsLemmas.{rooms_stay}
@@ -57,20 +58,20 @@ moving_copy core moves = by core.copy refl
 
 -- ---- when it may be committed
 
--- The move that is open is done, and its descriptor, which is ready, may be committed.
-pub record IsReadyMove (s : State) (next : Descriptor) : Type 0 where
+-- the copy that moves, once turns find nothing to do
+pub record IsDrainedMove (s : State) (next : Descriptor) : Type 0 where
   pub copy : OpenCopy
   pub drained : IsDrainedMoving s copy
-  pub may : MayCommitMove s next
-  pub settled : s.core.status.committed ≡ s.core.status.wanted
+  pub is : IsReadyMove s next
 
-pub ready_move : (s : State) (next : Descriptor) → IsSound s → IsDrained s → is_moving s.core ≡ true → copy_state s.core ≡ stage.Done → s.core.status.stamp.epoch ≢ 0 → Some next ≡ next_of s.core → IsReadyMove s next
-ready_move s next sound drained moves done epoch ready = record { copy = c; drained = now; may = done_may_commit s c next sound now moved epoch; settled = (drained_is_done s c sound now).committed }
+pub drained_move : (s : State) (next : Descriptor) → IsSound s → IsDrained s → is_moving s.core ≡ true → copy_state s.core ≡ stage.Done → s.core.status.stamp.epoch ≢ 0 → Some next ≡ next_of s.core → IsDrainedMove s next
+drained_move s next sound drained moves done epoch ready =
+    record { copy = c; drained = now; is = record { ready = sym ready; may = done_may_commit s c next sound now moved epoch; settled = (drained_is_done s c sound now).committed } }
   where
     its : IsMovingCopy s.core
     its = moving_copy s.core moves
 
-    abbrev c : OpenCopy
+    c : OpenCopy
     c = its.copy
 
     copy : IsCopy s.core c
@@ -106,7 +107,7 @@ one_out_long : (pool : List Bool) → length (with_one_out pool) ≡ length pool
 one_out_long pool = length-set pool 0 true
 
 module _ (next : Descriptor) (content : List ℕ) (before after : ℕ) (old new : State) (answer : Result (Unit {0}) CommitFault) where
-  pub commit_room : CommitsMove next content before after old new answer → SameRoom old.core new.core
+  commit_room : CommitsMove next content before after old new answer → SameRoom old.core new.core
   commit_room (Misses disk missing is same patience) = record { most = ap (λ (s : State). s.core.most) same; long = ap (λ (s : State). length s.core.pool) same }
   commit_room (Writes there w) = by w.how w.goes
     where
@@ -120,8 +121,8 @@ module _ (next : Descriptor) (content : List ℕ) (before after : ℕ) (old new 
       by commit_end.Stuck goes = record { most = ap (λ (c : Core). c.most) goes.1; long = ap (λ (c : Core). length c.pool) goes.1 ∙ one_out_long old.core.pool }
 
   -- its destination isn't missing
-  pub no_disk_fails : missing_destination old.core ≡ None → CommitsMove next content before after old new answer → IfErr answer (λ why. (disk : ℕ) → why ≡ fault.DiskFailed disk → ⊥)
-  no_disk_fails there does = told answer (none does)
+  disk_stays : missing_destination old.core ≡ None → CommitsMove next content before after old new answer → IfErr answer (λ why. (disk : ℕ) → why ≡ fault.DiskFailed disk → ⊥)
+  disk_stays there does = told answer (none does)
     where
       told : (a : Result (Unit {0}) CommitFault) → ((disk : ℕ) → a ≡ Err (fault.DiskFailed disk) → ⊥) → IfErr a (λ why. (disk : ℕ) → why ≡ fault.DiskFailed disk → ⊥)
       told (Ok done) never = tt
@@ -145,7 +146,7 @@ closed_room (Err fault.Dark) core = record { most = refl; long = refl }
 closed_room (Err (fault.WentOff have total)) core = record { most = refl; long = refl }
 closed_room (Err (fault.DiskFailed disk)) core = record { most = refl; long = refl }
 
-pub none_open : (answer : Result (Unit {0}) CommitFault) (core : Core) → (closed_after answer core).copy ≡ None
+none_open : (answer : Result (Unit {0}) CommitFault) (core : Core) → (closed_after answer core).copy ≡ None
 none_open (Ok done) core = refl
 none_open (Err fault.Stuck) core = refl
 none_open (Err fault.Dark) core = refl
@@ -154,34 +155,39 @@ none_open (Err (fault.DiskFailed disk)) core = refl
 
 -- ---- the parts of a driver then
 
-module _ {next : Descriptor} (device now : Device) (old written new : Session) (it : AreSound device old (Some next)) (drained : IsDrained (state device (core_of old))) (moves : is_moving (core_of old) ≡ true)
-    (done : copy_state (core_of old) ≡ stage.Done) (epoch : old.updater.stamp.epoch ≢ 0) where
+module _ (before after : ℕ) (old new : State) (answer : Result (Unit {0}) CommitFault) (it : CommitsOpenMove before after old new answer) where
+  pub closes : new.core.copy ≡ None
+  closes = ap (λ (s : State). s.core.copy) it.is ∙ none_open answer it.written.core
+
+  room_stays : SameRoom old.core new.core
+  room_stays =
+      let one = commit_room it.next (descriptor_bytes it.next) before after old it.written answer it.commits in
+      let two = subst (λ (s : State). SameRoom it.written.core s.core) (sym it.is) (closed_room answer it.written.core) in
+      record { most = two.most ∙ one.most; long = two.long ∙ one.long }
+
+module _ {next : Descriptor} (device now : Device) (old new : Session) (it : AreSound device old (Some next)) (same : SameRooms old new) (drained : IsDrained (state device (core_of old)))
+    (moves : is_moving (core_of old) ≡ true) (done : copy_state (core_of old) ≡ stage.Done) (epoch : old.updater.stamp.epoch ≢ 0) where
   abbrev was : State
   was = state device (core_of old)
 
-  pub ready : IsReadyMove was next
-  ready = ready_move was next it.1 drained moves done epoch it.2
+  abbrev is : State
+  is = state now (core_of new)
 
-  module _ (before after : ℕ) (answer : Result (Unit {0}) CommitFault) (one : SameRooms old written) (two : SameRooms written new)
-      (does : CommitsMove next (descriptor_bytes next) before after was (state now (core_of written)) answer) (is : core_of new ≡ closed_after answer (core_of written)) where
-    pub commits : CommitsOpenMove before after was (state now (core_of new)) answer
-    commits = record { next = next; ready = sym it.2; written = state now (core_of written); commits = does; is = ap (state now) is }
+  pub ready : IsDrainedMove was next
+  ready = drained_move was next it.1 drained moves done epoch it.2
 
-    step : MovingStep was (state now (core_of new))
-    step = CommitsItsMove before after answer ready.copy ready.drained epoch commits
+  pub commit_on : (before after : ℕ) (answer : Result (Unit {0}) CommitFault) → CommitsOpenMove before after was is answer → Stay LeavesMoving device now old new None
+  commit_on before after answer commits = record {
+    sound = (
+      rooms_stay old new (room_stays before after was is answer commits) same it.0,
+      moving_keeps was is it.1 step,
+      sym (ap (next_in (core_of new).descriptor) (closes before after was is answer commits)),
+    );
+    left = moving_one step;
+  }
+    where
+      step : MovingStep was is
+      step = CommitsItsMove before after answer ready.copy ready.drained epoch commits
 
-    pub closes : (core_of new).copy ≡ None
-    closes = ap (λ (c : Core). c.copy) is ∙ none_open answer (core_of written)
-
-    room : SameRoom (core_of written) (core_of new)
-    room = subst (SameRoom (core_of written)) (sym is) (closed_room answer (core_of written))
-
-    pub commit_on : Stay LeavesMoving device now old new None
-    commit_on = record {
-      sound = (
-        rooms_stay written new room two (rooms_stay old written (commit_room next (descriptor_bytes next) before after was (state now (core_of written)) answer does) one it.0),
-        moving_keeps was (state now (core_of new)) it.1 step,
-        sym (ap (next_in (core_of new).descriptor) closes),
-      );
-      left = moving_one step;
-    }
+  pub no_disk_fails : (before after : ℕ) (answer : Result (Unit {0}) CommitFault) → CommitsOpenMove before after was is answer → IfErr answer (λ why. (disk : ℕ) → why ≡ fault.DiskFailed disk → ⊥)
+  no_disk_fails before after answer commits = disk_stays commits.next (descriptor_bytes commits.next) before after was commits.written answer ready.is.may.there commits.commits

@@ -197,7 +197,7 @@ module _ (before after : ℕ) (old new : State) (it : CommitsOpenMove before aft
   written_epoch (Writes there w) = by w.how w.goes
     where
       by : (how : CommitEnd) → MoveEnds it.next w.last w.homes old.core it.written.core how (Ok tt) → EpochStays old.core it.written.core
-      by (commit_end.Done back) goes = of_stamp (record old.core { status = w.last }) it.written.core (stale_stays _ w.last it.written.core.status goes.1.marks) ∙ w.leaves.epoch
+      by (commit_end.Done back) goes = of_stamp (record old.core { status = w.last }) it.written.core (stale_stays _ w.last it.written.core.status goes.1.marks) ∙ w.leaves.numbers.epoch
       by (commit_end.WentOff have total back) goes = absurd (let e : Ok tt ≡ Err (fault.WentOff have total) = goes.0 in cc e)
       by commit_end.Dark goes = absurd (let e : Ok tt ≡ Err fault.Dark = goes.0 in cc e)
       by commit_end.Stuck goes = absurd (let e : Ok tt ≡ Err fault.Stuck = goes.0 in cc e)

@@ -8,7 +8,7 @@ ghost use Rattle.lvm_vol.specs.Log.{is_open, spare_entries};
 ghost use Rattle.lvm_session.specs.declared.open.Power.TheVariants as power;
 ghost use Rattle.lvm_session.specs.Judging.{is_missing, is_waiting};
 ghost use Rattle.lvm_session.specs.Fields.{core_of};
-ghost use Rattle.lvm_session.specs.Rooms.{HasRooms, SameRooms};
+ghost use Rattle.lvm_session.specs.Rooms.{HasRooms};
 ghost use Rattle.lvm_session.specs.State.{state, votes_there, state_of};
 ghost use Rattle.lvm_session.specs.declared.answers.CopyState.TheVariants as stage;
 ghost use Rattle.lvm_session.specs.Calls.{OpenGives, OpenMoveGives, SubmitGives, TakeGives, closed, copy_state};
@@ -22,20 +22,20 @@ ghost use Rattle.lvm_keeps_events.specs.passed.Names.{counts_seen};
 ghost use Rattle.lvm_keeps_events.specs.Reading.{GetsItsBlocks};
 ghost use Rattle.lvm_keeps_events.specs.Telling.{TurnTells};
 ghost use Rattle.lvm_going.specs.Frames.{is_moving};
-ghost use Rattle.lvm_going.specs.Going.{CommitsOpenMove, LeavesMoving, LeavesSession, RunsOn, closed_after};
-ghost use Rattle.lvm_core.specs.declared.fault.CommitFault.TheVariants as fault;
-ghost use Rattle.lvm_driver.specs.Drains.{IsDrained};
+ghost use Rattle.lvm_going.specs.Going.{CommitsOpenMove, LeavesMoving, LeavesSession, RunsOn};
 ghost use Rattle.lvm_going.specs.Statuses.{AreValid};
 ghost use Rattle.lvm_session_start.specs.Beginning.{AreFaults, MayBeginSession, first_core};
+ghost use Rattle.lvm_core.specs.declared.fault.CommitFault.TheVariants as fault;
+ghost use Rattle.lvm_driver.specs.Drains.{IsDrained};
 ghost use Rattle.lvm_driver.specs.Answers.{IsCausedFor, IsCopyCaused, IsOffSince};
 
+use crate::commits::commit_ready;
 use crate::dues::{all_due, submit, take};
 use crate::moves::{is_apart, prepare_move};
 use lvm_core::{Closed, CommitFault, Prepared, without_freed};
 use lvm_disk::{Arrange, Shelf};
 use lvm_due::{is_missing, left};
 use lvm_history::History;
-use lvm_move::commit_move;
 use lvm_keeps_events::below::{close_copy, copy_state, open_copy, open_move};
 use lvm_num::{Descriptor, Pp, Stamp};
 use lvm_path::Ask;
@@ -247,20 +247,14 @@ impl<S: Shelf> Driver<S> {
         ensures closed { self.new.1.copy ≡ None }
         ensures leaves { LeavesMoving (state_of S.device self.old) (state_of S.device self.new) }
     {
-        let (next, bytes) = match self.next.take() {
-            Some(next) => next.into_parts(),
+        match self.next.take() {
             None => unreachable!(),
-        };
-        let answer = commit_move(
-            &mut self.session,
-            &mut self.shelf,
-            next,
-            bytes.as_slice(),
-            patience,
-        );
-        close_after(&mut self.session, &answer);
-        self.due = all_due(&self.session);
-        answer
+            Some(next) => {
+                let answer = commit_ready(&mut self.session, &mut self.shelf, next, patience);
+                self.due = all_due(&self.session);
+                answer
+            }
+        }
     }
 
     /// Whether no copy of a logical partition but the one of this number, from 1, stands on the disk of the partition.
@@ -448,17 +442,6 @@ impl<S: Shelf> Driver<S> {
             shelf: without_freed(shelf),
             history,
         }
-    }
-}
-
-// The copy is closed, and the session is stuck where a transfer isn't heard of.
-fn close_after(session: &mut Session, answer: &Result<(), CommitFault>)
-    ensures is { core_of session.new ≡ closed_after answer.now (core_of session.old) }
-    ensures rooms { SameRooms session.old session.new }
-{
-    session.copy = None;
-    if let Err(CommitFault::Stuck) = answer {
-        session.power = Power::Stuck;
     }
 }
 

@@ -1,5 +1,6 @@
 //! Laws: which sessions may begin, which copies may move, and what turns leave of a copy that is open.
 ghost use Rattle.lvm_driver.specs.Beginnings.{EachModeBegins, WholeGroupsBegin};
+ghost use Rattle.lvm_driver.specs.Commits.{MirrorsMayCommit};
 ghost use Rattle.lvm_driver.specs.Drains.{DrainedHasEnded};
 ghost use Rattle.lvm_driver.specs.Moves.{MirrorsMayMove};
 
@@ -13,9 +14,10 @@ pub fn each_mode_begins()
     ensures { EachModeBegins }
 {}
 
-/// The second copy of its volume may begin to move to the third disk.
+/// The second copy of its volume may begin to move to the third disk, and once it has moved that may be committed.
 pub fn mirrors_may_move()
-    ensures { MirrorsMayMove }
+    ensures begins { MirrorsMayMove }
+    ensures commits { MirrorsMayCommit }
 {}
 
 /// Once turns find nothing to do, a copy that is open doesn't run: it has ended, or it is a move that is done.

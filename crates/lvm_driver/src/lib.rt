@@ -2,6 +2,7 @@
 #![tactic(auto)]
 
 pub mod below;
+mod commits;
 mod drain;
 mod driver;
 mod dues;

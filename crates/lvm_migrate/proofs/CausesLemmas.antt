@@ -1,5 +1,5 @@
 -- Why no more copies have moved.
-use Rattle.std.proofs.Common.{◌≡◌, ◌⊎◌, inl, inr, ◌≤◌, ◌+◌, ◌-◌, ◌||◌, ℕ, Bool, true, false, List, Option, None, Some, if◌then◌else◌, length, slice_index_or, refl, sym, ap, subst, ◌∙◌, arith}
+use Rattle.std.proofs.Common.{◌≡◌, ◌⊎◌, inl, inr, ◌≤◌, ◌+◌, ◌-◌, ◌||◌, ℕ, Bool, true, false, List, [], Option, None, Some, if◌then◌else◌, length, slice_index_or, refl, sym, ap, subst, ◌∙◌, arith}
 use Rattle.std.specs.Prelude.{IfErr, IfSome, Ok, Err, Result, nat_lt}
 use Rattle.std.specs.Option.{option_map_or}
 use Rattle.lvm_num.specs.declared.place.Pp.{Pp}
@@ -15,7 +15,7 @@ use Rattle.lvm_disk.proofs.CountingLemmas.{rose_after, rose_before}
 use Rattle.lvm_status.specs.Update.{members_there}
 use Rattle.lvm_commit.specs.declared.commit.CommitEnd.{CommitEnd}
 use Rattle.lvm_commit.specs.declared.commit.CommitEnd.TheVariants as commit_end
-use Rattle.lvm_commit.specs.Settling.{DescriptorEnds}
+use Rattle.lvm_commit.specs.Settling.{DescriptorEnds, HasLostQuorum}
 use Rattle.lvm_core.specs.declared.fault.CommitFault.{CommitFault}
 use Rattle.lvm_core.specs.declared.fault.CommitFault.TheVariants as commit
 use Rattle.lvm_core.proofs.CommittingLemmas.Spanning.{path_falls}
@@ -30,8 +30,9 @@ use Rattle.lvm_session.specs.declared.bringing.OpenCopy.{OpenCopy}
 use Rattle.lvm_session.specs.declared.open.Power.TheVariants as power
 use Rattle.lvm_session.specs.declared.origin.Origin.{Origin}
 use Rattle.lvm_session.specs.Bringing.{is_out}
-use Rattle.lvm_session.specs.Calls.{OpensMove, closed, copy_at, copy_state, is_still_aimed, state_at_end, state_of_copy}
+use Rattle.lvm_session.specs.Calls.{OpensMove, closed, copy_at, faults_of, copy_state, is_still_aimed, state_at_end, state_of_copy}
 use Rattle.lvm_session.specs.Causes.{FailedSinceOpening, HaveSourcesFailed, IsCausedAmong, OwnFailedSinceOpening, faults_at_first, faults_at_opening, own_faults}
+use Rattle.lvm_session.specs.Dark.{all_off}
 use Rattle.lvm_session.specs.Judging.{copies_in, is_move_done}
 use Rattle.lvm_session.specs.Sound.{IsSound}
 use Rattle.lvm_session.specs.State.{Core, State, votes_there}
@@ -49,9 +50,10 @@ use Rattle.lvm_migrate.specs.declared.fault.MoveFault.{MoveFault}
 use Rattle.lvm_migrate.specs.declared.fault.MoveFault.TheVariants as fault
 use Rattle.lvm_migrate.specs.Faults.{IsOfOpening, commit_fault_is, opening_fault_is}
 use Rattle.lvm_migrate.specs.Migrating.{GoesBesideMoving, MoveCause}
-use Rattle.lvm_migrate.specs.Moving.{CommitGives, CommitsIt, GivesItUp, IsAnswerOf, Opens, ended_fault, fault_of_move}
+use Rattle.lvm_migrate.specs.Moving.{CommitGives, Concludes, HasFailed, IsAnswerOf, IsDeniedBy, Opens, ended_fault, fault_of_move}
 use Rattle.lvm_migrate.proofs.CommittedLemmas.{IsWrittenWell, opens as opens_of, written_well}
-use Rattle.lvm_migrate.proofs.OpeningLemmas.{FewNumbers, ItsDiskIsMissing, NoneIsUsable, SessionIsDark, SessionIsOff, StandsAgainstIt, opened_fine}
+use Rattle.lvm_migrate.proofs.MovingLemmas.{begun, opened_so}
+use Rattle.lvm_migrate.proofs.OpeningLemmas.{FewNumbers, ItsDiskIsMissing, NoneIsUsable, SessionIsDark, SessionIsOff, StandsAgainstIt}
 use Rattle.lvm_migrate.proofs.TurnsLemmas.{IsOpenMove}
 
 -- ---- what stays, and what never falls
@@ -78,12 +80,12 @@ later_turns {first = first} {last = last} (Then {m = mid} path turn there) =
     let frame = turn_frame mid last turn.0 turn.1 in
     later_both first mid last (later_turns path) (record { sizes = frame.keeps.sizes; began = ap (λ (o : Origin). o.faults) frame.keeps.origin; faults = frame.keeps.counts.faults })
 
-module _ (m : PlannedMove) (old mid : State) (opens : Opens old mid m (Ok tt)) where
-  made : OpensMove (counts_seen old.device old.core) old.core mid.core m.copy.lv m.copy.lp m.copy.number m.to
-  made = (opened_fine (counts_seen old.device old.core) old.core mid.core m opens.1).1
+later_opened : (m : PlannedMove) (old mid : State) → Opens old mid m (Ok tt) → IsLater old mid
+later_opened m old mid opens = later_call old mid opens.2 (ap (λ (c : Core). c.origin.faults) (opened_so old mid m opens).is ∙ (opened_so old mid m opens).called.faults)
 
-  later_opened : IsLater old mid
-  later_opened = later_call old mid opens.2 made.called.faults
+pub turns_group : {P : State → Type 0} {first last : State} → Path IsTurn P first last → last.core.descriptor ≡ first.core.descriptor
+turns_group (Here here) = refl
+turns_group {last = last} (Then {m = mid} path turn there) = (turn_frame mid last turn.0 turn.1).keeps.descriptor ∙ turns_group path
 
 -- one that has moved
 pub later_moved : (m : PlannedMove) (patience left : ℕ) (old new : State) → CommitGives m patience left old new (Ok tt) → IsLater old new
@@ -136,43 +138,38 @@ failed_end core c disk e = by (is_out c.step || is_still_aimed core c) (is_move_
     by false false (Some ending.NoFresh) is f = absurd (cc f)
     by false false (Some ending.Ended) is f = absurd (cc f)
 
-module _ (m : PlannedMove) (old mid ended : State) (opens : Opens old mid m (Ok tt)) (valid : IsValid old.core.descriptor) (turns : Path IsTurn IsAny mid ended) (begun : OpenCopy)
-    (begun_faults : begun.faults ≡ Rattle.lvm_session.specs.Calls.faults_of (counts_seen old.device old.core) (copies_of (made m old mid opens).row m.copy.lp) m.to) (begun_pp : begun.pp ≡ m.to)
-    (begun_lv : begun.lv ≡ m.copy.lv) (begun_lp : begun.lp ≡ m.copy.lp) (still : IsOpenMove begun ended.core) (disk : ℕ) (how : copy_state ended.core ≡ copy.SyncFailed disk) (its_cause : IsCopyCaused ended) where
+module _ (m : PlannedMove) (old mid ended : State) (opens : Opens old mid m (Ok tt)) (valid : IsValid old.core.descriptor) (turns : Path IsTurn IsAny mid ended) (still : IsOpenMove (begun old mid m opens) ended.core) (disk : ℕ)
+    (how : copy_state ended.core ≡ copy.SyncFailed disk) (its_cause : IsCopyCaused ended) where
   abbrev pps : List Pp
-  pps = copies_of (made m old mid opens).row m.copy.lp
+  pps = copies_of (opened_so old mid m opens).row m.copy.lp
 
   abbrev k : OpenCopy
   k = still.copy
 
   its_copies : copies_in old.core.descriptor m.copy.lv m.copy.lp ≡ pps
-  its_copies = ap (λ (o : Option LvRow). option_map_or (λ (r : LvRow). copies_of r m.copy.lp) o []) (made m old mid opens).volume
+  its_copies = ap (λ (o : Option LvRow). option_map_or (λ (r : LvRow). copies_of r m.copy.lp) o []) (opened_so old mid m opens).volume
 
   few : length pps ≤ 3
   few = subst (λ (ps : List Pp). length ps ≤ 3) its_copies (few_in old.core.descriptor m.copy.lv m.copy.lp valid)
 
   same_group : ended.core.descriptor ≡ old.core.descriptor
-  same_group = turns_group turns ∙ ap (λ (c : Core). c.descriptor) (made m old mid opens).is
-    where
-      turns_group : {P : State → Type 0} {first last : State} → Path IsTurn P first last → last.core.descriptor ≡ first.core.descriptor
-      turns_group (Here here) = refl
-      turns_group {last = last} (Then {m = mid} path turn there) = (turn_frame mid last turn.0 turn.1).keeps.descriptor ∙ turns_group path
+  same_group = turns_group turns ∙ ap (λ (c : Core). c.descriptor) (opened_so old mid m opens).is
 
   its_own : copies_in ended.core.descriptor k.lv k.lp ≡ pps
-  its_own = (λ t. copies_in (same_group t) ((still.its.1 ∙ begun_lv) t) ((still.its.2 ∙ begun_lp) t)) ∙ its_copies
+  its_own = (λ t. copies_in (same_group t) (still.its.1 t) (still.its.2 t)) ∙ its_copies
 
   rose : (n : ℕ) (p : Pp) → copy_at pps n ≡ Some p → FailedSinceOpening ended.device k n p → AnyFails old ended
   rose n p at since = (p.disk, subst (λ (x : ℕ). Rose x (ended.device.counts.faults p.disk)) seen since)
     where
       seen : faults_at_opening k n ≡ faults_seen old.device old.core p.disk
-      seen = ap (λ (fs : List ℕ). slice_index_or fs (n - 1) 0) (still.its.4 ∙ begun_faults) ∙ counted_at (counts_seen old.device old.core) pps m.to (n - 1) p few (at_place pps n p at)
+      seen = ap (λ (fs : List ℕ). slice_index_or fs (n - 1) 0) still.its.4 ∙ counted_at (counts_seen old.device old.core) pps m.to (n - 1) p few (at_place pps n p at)
 
   own_rose : OwnFailedSinceOpening ended.device k → AnyFails old ended
   own_rose since = (k.pp.disk, subst (λ (x : ℕ). Rose x (ended.device.counts.faults k.pp.disk)) seen since)
     where
       seen : own_faults k ≡ faults_seen old.device old.core k.pp.disk
-      seen = ap (λ (fs : List ℕ). slice_index_or fs 3 0) (still.its.4 ∙ begun_faults) ∙ last_count (counts_seen old.device old.core) pps m.to
-          ∙ ap (λ (p : Pp). faults_seen old.device old.core p.disk) (sym (still.its.0 ∙ begun_pp))
+      seen = ap (λ (fs : List ℕ). slice_index_or fs 3 0) still.its.4 ∙ last_count (counts_seen old.device old.core) pps m.to
+          ∙ ap (λ (p : Pp). faults_seen old.device old.core p.disk) (sym still.its.0)
 
   caused : IsCausedAmong ended (copies_in ended.core.descriptor k.lv k.lp) k
   caused = subst (λ (o : Option OpenCopy). IfSome o (λ (x : OpenCopy). IsCausedAmong ended (copies_in ended.core.descriptor x.lv x.lp) x)) still.is_open its_cause
@@ -204,7 +201,7 @@ cause_unopened patience m copies old new why against opens = subst (MoveCause pa
     moved : (denied : OpenFault) → fault_of_move old.core m ≡ Some denied → MoveCause patience old new (opening_fault_is denied m.copy.lp off)
     moved denied is = subst (λ (s : State). MoveCause patience old s (opening_fault_is denied m.copy.lp off)) (sym opens.0) (so denied (against denied is))
 
-    by : (denied : OpenFault) → IsOfOpening denied → Rattle.lvm_migrate.specs.Moving.IsDeniedBy old.core m denied → MoveCause patience old new (opening_fault_is denied m.copy.lp off)
+    by : (denied : OpenFault) → IsOfOpening denied → IsDeniedBy old.core m denied → MoveCause patience old new (opening_fault_is denied m.copy.lp off)
     by denial.Dark of is = moved denial.Dark is
     by denial.Off of is = moved denial.Off is
     by (denial.Missing disk) of is = moved (denial.Missing disk) is
@@ -230,31 +227,114 @@ rose_by_both : {m n a b c : ℕ} → RoseBy m a b → RoseBy n b c → RoseBy (m
 rose_by_both one two = record { later = omega (arith, one.later, two.later); risen = omega (arith, one.risen, two.risen, one.later, two.later) }
 
 module _ (patience between left : ℕ) (old ended new : State) (sound : IsSound ended) (beside : GoesBesideMoving old ended patience between) where
-  cause_commit : (why : CommitFault) → CommitsOpenMove between left ended new (Err why) → MoveCause patience old new (commit_fault_is why)
-  cause_commit why it = of it.commits
+  module _ (why : CommitFault) (it : CommitsOpenMove between left ended new (Err why)) where
+    done_not : {X : Type 0} → Err why ≡ Ok tt → X
+    done_not e = absurd (cc e)
+
+    -- as what it is answered says
+    so : (u : CommitFault) → Err why ≡ Err u → (new.core ≡ closed_after (Err u) it.written.core → MoveCause patience old new (commit_fault_is u)) → MoveCause patience old new (commit_fault_is why)
+    so u e cause =
+        let same : why ≡ u = cc e in
+        subst (λ (x : CommitFault). MoveCause patience old new (commit_fault_is x)) (sym same) (cause (ap (λ (s : State). s.core) it.is ∙ ap (λ (x : CommitFault). closed_after (Err x) it.written.core) same))
+
+    off_cause : (have total : ℕ) (w : WritesMove it.next (descriptor_bytes it.next) between left ended it.written (Err why)) → HasLostQuorum ended.core.status w.last ended.device it.written.device have total
+        → it.written.core ≡ all_off (record ended.core { status = w.last; homes = w.homes }) → new.core ≡ closed_after (Err (commit.WentOff have total)) it.written.core → MoveCause patience old new (fault.WentOff have total)
+    off_cause have total w lost off is =
+        let group_is : w.last.group ≡ record ended.core.descriptor { lvs = [] } = w.leaves.loses.group ∙ sound.fitting.group in
+        let core_is : new.core ≡ closed (all_off (record ended.core { status = w.last; homes = w.homes })) = is ∙ ap closed off in
+        (
+          ap (λ (c : Core). c.power) core_is,
+          lost.have_is ∙ ap (λ (g : Descriptor). votes_in g (members_there g w.last.wanted)) group_is ∙ sym (ap (λ (c : Core). votes_there c) core_is),
+          lost.total_is ∙ ap (λ (g : Descriptor). total_votes g) group_is ∙ sym (ap (λ (c : Core). total_votes c.descriptor) core_is)
+        )
+
+    stuck_cause : RoseBy between ended.device.counts.waits it.written.device.counts.waits → MoveCause patience old new fault.Stuck
+    stuck_cause waits =
+        let fewer = beside.fewer in
+        let all : patience - between + between ≡ patience = omega (arith, fewer) in
+        subst (λ (n : ℕ). RoseBy n old.device.counts.waits new.device.counts.waits) all
+        (rose_by_both beside.waited (subst (λ (s : State). RoseBy between ended.device.counts.waits s.device.counts.waits) (sym it.is) waits))
+
+    cause_commit : ((disk : ℕ) → why ≡ commit.DiskFailed disk → ⊥) → MoveCause patience old new (commit_fault_is why)
+    cause_commit there = of it.commits
+      where
+        of : CommitsMove it.next (descriptor_bytes it.next) between left ended it.written (Err why) → MoveCause patience old new (commit_fault_is why)
+        of (Misses disk missing is same patience_is) = absurd (there disk (let e : why ≡ commit.DiskFailed disk = cc is in e))
+        of (Writes none w) = by w.how w.ends w.goes
+          where
+            by : (end : CommitEnd) → DescriptorEnds (descriptor_bytes it.next) 0 between ended.core.status w.last ended.core.homes w.homes ended.device it.written.device end → MoveEnds it.next w.last w.homes ended.core it.written.core end (Err why)
+                → MoveCause patience old new (commit_fault_is why)
+            by (commit_end.Done back) ends goes = done_not goes.0
+            by (commit_end.WentOff have total back) ends goes = so (commit.WentOff have total) goes.0 (off_cause have total w ends.lost goes.1)
+            by commit_end.Dark ends goes = so commit.Dark goes.0 (λ is. ap (λ (c : Core). c.power) is ∙ ap (λ (c : Core). c.power) goes.1)
+            by commit_end.Stuck ends goes = so commit.Stuck goes.0 (λ is. stuck_cause ends.0.waits)
+
+  -- it is given up, or the commit ends so
+  pub cause_concluded : (lp : ℕ) (why : MoveFault) → ((disk : ℕ) → copy_state ended.core ≡ copy.SyncFailed disk → IsCopyCaused ended → AnyFails old ended) → Concludes lp between left ended new (Err why) → MoveCause patience old new why
+  cause_concluded lp why failed (inl it) = by it.how it.commits it.there it.answer_is
     where
-      fails : Type 0
-      fails = MoveCause patience old new (commit_fault_is why)
+      by : (how : Result (Unit {0}) CommitFault) → CommitsOpenMove between left ended new how → IfErr how (λ u. (disk : ℕ) → u ≡ commit.DiskFailed disk → ⊥) → IsAnswerOf how (Err why) → MoveCause patience old new why
+      by (Ok done) commits there is = absurd (let e : Err why ≡ Ok tt = is in cc e)
+      by (Err u) commits there is = let same : why ≡ commit_fault_is u = cc is in subst (MoveCause patience old new) (sym same) (cause_commit u commits there)
+  cause_concluded lp why failed (inr it) = let same : why ≡ ended_fault (copy_state ended.core) lp = cc it.answer_is in subst (MoveCause patience old new) (sym same) (by (copy_state ended.core) refl it.failed)
+    where
+      later : (d : ℕ) → ended.device.counts.faults d ≤ new.device.counts.faults d
+      later d = subst (λ (s : State). ended.device.counts.faults d ≤ s.device.counts.faults d) (sym it.is) (omega arith)
 
-      done_not : {X : Type 0} → Err why ≡ Ok tt → X
-      done_not e = absurd (cc e)
+      by : (how : CopyState) → copy_state ended.core ≡ how → HasFailed how → MoveCause patience old new (ended_fault how lp)
+      by (copy.SyncFailed disk) is its = let fails = failed disk is it.caused in (fails.0, rose_after fails.1 (later fails.0))
+      by copy.NoFresh is its = tt
+      by copy.Closed is its = absurd its
+      by (copy.Running cursor) is its = absurd its
+      by copy.Done is its = absurd its
+      by copy.Ended is its = absurd its
 
-      device_is : new.device ≡ it.written.device
-      device_is = ap (λ (s : State). s.device) it.is
+-- since an earlier moment
+pub cause_since : (first mid new : State) (patience between : ℕ) (why : MoveFault) → IsLater first mid → GoesBesideMoving first mid patience between → MoveCause between mid new why → MoveCause patience first new why
+cause_since first mid new patience between fault.Dark later beside cause = cause
+cause_since first mid new patience between (fault.WentOff have total) later beside cause = cause
+cause_since first mid new patience between fault.Stuck later beside cause =
+    let fewer = beside.fewer in
+    let all : patience - between + between ≡ patience = omega (arith, fewer) in
+    subst (λ (n : ℕ). RoseBy n first.device.counts.waits new.device.counts.waits) all (rose_by_both beside.waited cause)
+cause_since first mid new patience between fault.HistoryFull later beside cause = cause
+cause_since first mid new patience between (fault.Missing disk) later beside cause = cause
+cause_since first mid new patience between (fault.SyncFailed disk) later beside cause = fails_later first mid new later cause
+cause_since first mid new patience between (fault.NoFresh lp) later beside cause = tt
+cause_since first mid new patience between fault.Busy later beside cause = tt
+cause_since first mid new patience between (fault.Strict lp) later beside cause = tt
+cause_since first mid new patience between (fault.NoRoom free) later beside cause = tt
+cause_since first mid new patience between fault.Memory later beside cause = tt
 
-      as : {u : CommitFault} → Err why ≡ Err u → MoveCause patience old new (commit_fault_is u) → MoveCause patience old new (commit_fault_is why)
-      as {u} e cause = let same : why ≡ u = cc e in subst (λ (x : CommitFault). MoveCause patience old new (commit_fault_is x)) (sym same) cause
+-- ---- the group stays where one doesn't move
 
-      core_of : (u : CommitFault) → why ≡ u → new.core ≡ closed_after (Err u) it.written.core
-      core_of u same = ap (λ (s : State). s.core) it.is ∙ ap (λ (x : CommitFault). closed_after (Err x) it.written.core) same
+pub commit_group : (between left : ℕ) (ended new : State) (why : CommitFault) → CommitsOpenMove between left ended new (Err why) → new.core.descriptor ≡ ended.core.descriptor
+commit_group between left ended new why it = ap (λ (s : State). s.core.descriptor) it.is ∙ closes (Err why) it.written.core ∙ of it.commits
+  where
+    closes : (answer : Result (Unit {0}) CommitFault) (core : Core) → (closed_after answer core).descriptor ≡ core.descriptor
+    closes (Ok done) core = refl
+    closes (Err commit.Stuck) core = refl
+    closes (Err commit.Dark) core = refl
+    closes (Err (commit.WentOff have total)) core = refl
+    closes (Err (commit.DiskFailed disk)) core = refl
 
-      of : CommitsMove it.next (descriptor_bytes it.next) between left ended it.written (Err why) → MoveCause patience old new (commit_fault_is why)
-      of (Misses disk missing is same patience_is) = as is ?
-      of (Writes there w) = by w.how w.ends w.goes
-        where
-          by : (end : CommitEnd) → DescriptorEnds (descriptor_bytes it.next) 0 between ended.core.status w.last ended.core.homes w.homes ended.device it.written.device end → MoveEnds it.next w.last w.homes ended.core it.written.core end (Err why)
-              → MoveCause patience old new (commit_fault_is why)
-          by (commit_end.Done back) ends goes = done_not goes.0
-          by (commit_end.WentOff have total back) ends goes = as goes.0 ?
-          by commit_end.Dark ends goes = as goes.0 ?
-          by commit_end.Stuck ends goes = as goes.0 ?
+    done_not : {X : Type 0} → Err why ≡ Ok tt → X
+    done_not e = absurd (cc e)
+
+    of : CommitsMove it.next (descriptor_bytes it.next) between left ended it.written (Err why) → it.written.core.descriptor ≡ ended.core.descriptor
+    of (Misses disk missing is same patience_is) = ap (λ (s : State). s.core.descriptor) same
+    of (Writes none w) = by w.how w.goes
+      where
+        by : (end : CommitEnd) → MoveEnds it.next w.last w.homes ended.core it.written.core end (Err why) → it.written.core.descriptor ≡ ended.core.descriptor
+        by (commit_end.Done back) goes = done_not goes.0
+        by (commit_end.WentOff have total back) goes = ap (λ (c : Core). c.descriptor) goes.1
+        by commit_end.Dark goes = ap (λ (c : Core). c.descriptor) goes.1
+        by commit_end.Stuck goes = ap (λ (c : Core). c.descriptor) goes.1
+
+pub concluded_group : (lp between left : ℕ) (ended new : State) (why : MoveFault) → Concludes lp between left ended new (Err why) → new.core.descriptor ≡ ended.core.descriptor
+concluded_group lp between left ended new why (inr it) = ap (λ (s : State). s.core.descriptor) it.is
+concluded_group lp between left ended new why (inl it) = by it.how it.commits it.answer_is
+  where
+    by : (how : Result (Unit {0}) CommitFault) → CommitsOpenMove between left ended new how → IsAnswerOf how (Err why) → new.core.descriptor ≡ ended.core.descriptor
+    by (Ok done) commits is = absurd (let e : Err why ≡ Ok tt = is in cc e)
+    by (Err u) commits is = commit_group between left ended new u commits

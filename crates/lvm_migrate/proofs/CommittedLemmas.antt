@@ -117,5 +117,5 @@ after_last d (x ∷ moves) m = after_last (after_move d x) moves m
 
 pub moved_stand : {first : State} {patience : ℕ} {moves : List PlannedMove} {now : State} {left : ℕ} → HaveMoved first patience moves now left → now.core.descriptor ≡ after_moves first.core.descriptor moves
 moved_stand NoneMoved = refl
-moved_stand {first = first} {now = new} (OneMoved {moves = moves} {old = old} {before = before} {left = left} m have gives) =
+moved_stand {first = first} (OneMoved {moves} {old} {new} {before} {left} m have gives) =
     descriptor_is m before left old new gives ∙ ap (λ (d : Descriptor). after_move d m) (moved_stand have) ∙ sym (after_last first.core.descriptor moves m)

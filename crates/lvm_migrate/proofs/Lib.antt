@@ -5,4 +5,6 @@ pub mod MovingLemmas
 pub mod CommittedLemmas
 pub mod MarksLemmas
 pub mod CausesLemmas
+pub mod WorkedLemmas
+pub mod OneLemmas
 pub mod MigratingLemmas

@@ -99,17 +99,17 @@ module _ (old new : State) (m : PlannedMove) where
 -- ---- the one that is open
 
 module _ (old mid : State) (m : PlannedMove) (opens : Opens old mid m (Ok tt)) where
-  made : OpensMove (counts_seen old.device old.core) old.core mid.core m.copy.lv m.copy.lp m.copy.number m.to
-  made = (opened_fine (counts_seen old.device old.core) old.core mid.core m opens.1).1
+  pub opened_so : OpensMove (counts_seen old.device old.core) old.core mid.core m.copy.lv m.copy.lp m.copy.number m.to
+  opened_so = (opened_fine (counts_seen old.device old.core) old.core mid.core m opens.1).1
 
   abbrev pub begun : OpenCopy
-  begun = opened true m.to m.copy.lv m.copy.lp m.copy.number made.tried (faults_of (counts_seen old.device old.core) (copies_of made.row m.copy.lp) m.to) (step_place old.core)
+  begun = opened true m.to m.copy.lv m.copy.lp m.copy.number opened_so.tried (faults_of (counts_seen old.device old.core) (copies_of opened_so.row m.copy.lp) m.to) (step_place old.core)
 
   pub just : IsOpenMove begun mid.core
-  just = record { copy = begun; is_open = ap (λ (c : Core). c.copy) made.is; its = (refl, refl, refl, refl, refl, refl); goes = λ e. cc e }
+  just = record { copy = begun; is_open = ap (λ (c : Core). c.copy) opened_so.is; its = (refl, refl, refl, refl, refl, refl); goes = λ e. cc e }
 
   pub still_unstuck : (old.core.power ≡ power.Stuck → ⊥) → mid.core.power ≡ power.Stuck → ⊥
-  still_unstuck unstuck stuck = unstuck (sym (ap (λ (c : Core). c.power) made.is) ∙ stuck)
+  still_unstuck unstuck stuck = unstuck (sym (ap (λ (c : Core). c.power) opened_so.is) ∙ stuck)
 
   module _ (new : State) (turns : Path IsTurn IsAny mid new) where
     pub turns_end : (patience left : ℕ) (how : Result (Unit {0}) CommitFault) → DrainEnds left new how → DrainCosts patience left mid new how → TurnsEnd m patience left old new how
@@ -221,3 +221,33 @@ not_opened m patience left old new why stays opens = subst (StopsAt m patience l
     by denial.NoVolume is of = absurd of
     by denial.OutOfRange is of = absurd of
     by denial.InUse is of = absurd of
+
+-- ---- what becomes of it
+
+-- it doesn't run
+pub no_run : (s : State) → (copy_state s.core ≡ copy.Done) ⊎ HasFailed (copy_state s.core) → (cursor : ℕ) → copy_state s.core ≡ copy.Running cursor → ⊥
+no_run s (inl done) cursor runs = absurd (let e : copy.Done ≡ copy.Running cursor = sym done ∙ runs in cc e)
+no_run s (inr failed) cursor runs = absurd (subst HasFailed runs failed)
+
+pub failed_of : (s : State) (how : CopyState) → how ≡ copy_state s.core → (copy_state s.core ≡ copy.Done) ⊎ HasFailed (copy_state s.core) → (how ≡ copy.Done → ⊥) → HasFailed how
+failed_of s how is (inl done) other = absurd (other (is ∙ done))
+failed_of s how is (inr failed) other = subst HasFailed (sym is) failed
+
+module _ (lp patience left : ℕ) (old new : State) where
+  pub commits_well : copy_state old.core ≡ copy.Done → CommitsOpenMove patience left old new (Ok tt) → Concludes lp patience left old new (Ok tt)
+  commits_well done commits = inl (record { done = done; how = Ok tt; commits = commits; there = tt; answer_is = refl })
+
+  pub commits_not : (why : CommitFault) → copy_state old.core ≡ copy.Done → CommitsOpenMove patience left old new (Err why) → ((disk : ℕ) → why ≡ commit.DiskFailed disk → ⊥) → Concludes lp patience left old new (Err (commit_fault_is why))
+  commits_not why done commits there = inl (record { done = done; how = Err why; commits = commits; there = there; answer_is = refl })
+
+  pub gives_up : (how : CopyState) → how ≡ copy_state old.core → HasFailed how → IsCopyCaused old → new ≡ state old.device (closed old.core) → left ≡ patience → Concludes lp patience left old new (Err (ended_fault how lp))
+  gives_up how is failed caused closes same = inr (record {
+    failed = subst HasFailed is failed;
+    caused = caused;
+    is = closes;
+    same = same;
+    answer_is = ap (λ (h : CopyState). Err (ended_fault h lp)) is;
+  })
+
+pub closed_state : {S : Type 0} (device : S → Device) (old new : S × Core) → new.0 ≡ old.0 → new.1 ≡ closed old.1 → state (device new.0) new.1 ≡ state (device old.0) (closed old.1)
+closed_state device old new shelf core = ap (λ (d : Device). state d new.1) (ap device shelf) ∙ ap (λ (x : Core). state (device old.0) x) core

@@ -1,3 +1,4 @@
 pub mod Faults
 pub mod Moving
 pub mod Migrating
+pub mod Worked

@@ -1,9 +1,10 @@
 //! The copies of a disk move to another one.
-ghost use Rattle.std.specs.Prelude.{◌≡◌, ◌≢◌, ◌≤◌, None, is_some, IfErr, IfOk, length};
+ghost use Rattle.std.specs.Prelude.{◌≡◌, ◌≢◌, ◌≤◌, false, None, is_some, All, IfErr, IfOk, length};
 ghost use Rattle.lvm_session.specs.declared.open.Power.TheVariants as power;
 ghost use Rattle.lvm_session.specs.Calls.{has_numbers};
 ghost use Rattle.lvm_session.specs.Judging.{is_missing};
 ghost use Rattle.lvm_session.specs.State.{state_of};
+ghost use Rattle.lvm_move_plan.specs.declared.plan.PlannedMove.{PlannedMove};
 ghost use Rattle.lvm_move_plan.specs.Planned.{planned_moves};
 ghost use Rattle.lvm_migrate.specs.Migrating.{AreFreshBut, ArePlanned, GoesBesideMoving, IsLeftEmpty, IsPlanOf, MayMigrate, MigrateGives, MoveCause, MovesAll, StandMoved, busy_or_missing, session_refusal};
 
@@ -95,6 +96,7 @@ fn move_all<S: Shelf>(
     requires none { driver.old.1.copy ≡ None }
     requires plan { IsPlanOf driver.old.1.descriptor moves.now }
     requires few { length moves.now ≤ 1016 }
+    requires there { All (λ (m : PlannedMove). is_missing driver.old.1 m.to.disk ≡ false) moves.now }
     ensures moves { MovesAll moves.now patience.old.left patience.new.left (state_of S.device driver.old) (state_of S.device driver.new) result }
     ensures stand { StandMoved moves.now driver.old.1.descriptor driver.new.1.descriptor result }
     ensures fresh { IfOk result (λ moved. AreFreshBut moves.now (state_of S.device driver.old) (state_of S.device driver.new)) }

@@ -90,6 +90,7 @@ pub fn move_one<S: Shelf>(
     requires stands { MayStandOn driver.old.1.descriptor one.copy.lv one.copy.lp one.copy.number one.to }
     ensures moves { MovesOne one patience.old.left patience.new.left (state_of S.device driver.old) (state_of S.device driver.new) result }
     ensures closed { IfOk result (λ done. driver.new.1.copy ≡ None) }
+    ensures stays { IfErr result (λ why. driver.new.1.descriptor ≡ driver.old.1.descriptor) }
     ensures caused { IfErr result (MoveCause patience.old.left (state_of S.device driver.old) (state_of S.device driver.new)) }
     ensures beside { GoesBesideMoving (state_of S.device driver.old) (state_of S.device driver.new) patience.old.left patience.new.left }
 {
@@ -97,5 +98,6 @@ pub fn move_one<S: Shelf>(
     open(driver, alloc, one)?;
     driver.is_sound();
     driver.drain(patience)?;
+    driver.is_sound();
     conclude(driver, one.copy.lp, patience)
 }

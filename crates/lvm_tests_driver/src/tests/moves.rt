@@ -241,12 +241,12 @@ fn commit_under<S: Shelf + Drop>(
     Some(ended)
 }
 
-// The power is cut at each call: that the commit has ended so, and that it hasn't.
+// The eight track groups take 32 calls. The power is cut at each call about the commit: some find it dark, one doesn't.
 #[test]
 fn a_commit_in_the_dark(rt: HostRuntime) {
     let mut dark = 0;
     let mut done = 0;
-    for call in 1..120 {
+    for call in 30..70 {
         let cut = [Planned {
             call,
             act: Act::Cut(call),
@@ -264,11 +264,11 @@ fn a_commit_in_the_dark(rt: HostRuntime) {
     check(&rt, done >= 1, "done before the cut");
 }
 
-// Nothing is heard of a transfer of it, with no patience.
+// Nothing is heard of one of its transfers, with no patience.
 #[test]
 fn a_commit_is_given_up_without_patience(rt: HostRuntime) {
     let mut stuck = 0;
-    for call in 1..120 {
+    for call in 30..70 {
         let delay = [Planned {
             call,
             act: Act::Delay(2),
