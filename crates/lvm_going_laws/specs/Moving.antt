@@ -1,20 +1,26 @@
 -- The theorem of a session of which copies move: what its way leaves from one moment of it to a later one.
 use Rattle.std.specs.Prelude.{◌≡◌, ◌⊎◌, ℕ, [], List}
+use Rattle.lvm_num.specs.declared.descriptor.Descriptor.{Descriptor}
 use Rattle.lvm_disk.specs.Counts.{NoneFalls}
-use Rattle.lvm_disk.specs.Device.{Device}
+use Rattle.lvm_disk.specs.Device.{Device, Image, MayLeave}
 use Rattle.lvm_vol.specs.Facts.{Fact}
 use Rattle.lvm_vol.specs.Legal.{IsLater}
-use Rattle.lvm_kept.specs.Group.{IsAlike}
+use Rattle.lvm_kept.specs.Contents.{contents_of}
+use Rattle.lvm_kept.specs.Group.{IsAlike, IsFound, IsOneOf}
+use Rattle.lvm_kept.specs.Moments.{Moment}
 use Rattle.lvm_status.specs.Table.{has_row}
+use Rattle.lvm_steps.specs.Moments.{RunBegins}
 use Rattle.lvm_session.specs.declared.open.Power.TheVariants as power
 use Rattle.lvm_session.specs.Sound.{IsSound}
 use Rattle.lvm_session.specs.State.{Core, State}
-pub use Rattle.lvm_going.specs.Going.{LeavesMoving, LeavesSession}
+pub use Rattle.lvm_going.specs.Committed.{IsCommit, committed_on, next_on}
+pub use Rattle.lvm_going.specs.Going.{LeavesMoving, LeavesSession, MovingStep}
 use Rattle.lvm_tie.specs.GoingOn.{SessionGoesOn}
 use Rattle.lvm_tie.specs.Landings.{HasCausesSince}
 use Rattle.lvm_tie.specs.Running.{GoesOffByCut, GoesOnOrEnds, IsBefore, KeepsOrigin}
 use Rattle.lvm_tie.specs.Spares.{LeavesDescriptors, SparesDescriptors}
 use Rattle.lvm_tie.specs.Stamps.{KeepsEpoch}
+use Rattle.lvm_tie.specs.Tied.{IsGood, IsTied}
 
 -- It is of the run and the rooms that it was given, on disks as large, whose counts never fall and whose power goes off by a cut alone; of the same group, in which
 -- copies may stand elsewhere; and it goes on, is over, or isn't heard of.
@@ -27,7 +33,7 @@ pub record KeepsMovedShape (old new : State) : Type 0 where
   pub volumes : new.core.descriptor.lvs ≡ [] → old.core.descriptor.lvs ≡ []
   pub origin : KeepsOrigin old.core.origin new.core.origin
   pub rows : (disk : ℕ) → has_row new.core.origin.table disk ≡ has_row old.core.origin.table disk
-  pub power : GoesOnOrEnds old.core new.core ⊎ (new.core.power ≡ power.Stuck)
+  pub power : GoesOnOrEnds old.core new.core ⊎ ((old.core.power ≡ power.On) × (new.core.power ≡ power.Stuck))
 
 -- no transfer goes to a slot of descriptors, and the newest ones go on to be spared
 pub record SparesOn (old new : State) : Type 0 where
@@ -49,6 +55,27 @@ pub record MovesOn (old new : State) : Type 0 where
 abbrev pub LeavesMoveOn : Type 0
 LeavesMoveOn = (first last : State) → IsSound first → LeavesSession first last → MovesOn first last
 
--- and where copies move, and the session is sound behind it.
+-- and over a move that is committed, however that ends.
+abbrev pub CommitMovesOn : Type 0
+CommitMovesOn = (old new : State) (step : MovingStep old new) → IsCommit step → IsSound old → IsSound new → MovesOn old new
+
+-- So it is where copies move, and the session is sound behind it.
 abbrev pub GoingMovesOn : Type 0
 GoingMovesOn = (first last : State) → IsSound first → LeavesMoving first last → IsSound last × MovesOn first last
+
+-- ---- what is found
+
+-- some crash image of it is found by this descriptor
+abbrev pub FoundOn : Device → ℕ → Descriptor → Type 0
+FoundOn device id k = (image : Image) × MayLeave device image × IsFound (contents_of image) id k
+
+-- A commit of a tied session leaves found what was found before, or the descriptor that was to be committed.
+abbrev pub CommitFindsNext : Type 0
+CommitFindsNext = (past : List Fact) (old new : State) (step : MovingStep old new) → IsCommit step → IsTied past old → SparesDescriptors old
+    → (id : ℕ) (k : Descriptor) → FoundOn new.device id k → FoundOn old.device id k ⊎ ((id ≡ old.core.descriptor.id) × IsOneOf (next_on step) k)
+
+-- So the way of a good session leaves found what was found before, or one that was being committed on it.
+abbrev pub MovesFindTheirs : Type 0
+MovesFindTheirs = (moment : Moment) (past : List Fact) (first last : State) (leaves : LeavesMoving first last) → IsSound first → LeavesDescriptors first.device → IsGood first.core.history.run moment first
+    → RunBegins first.core.history.run past moment → SparesDescriptors first
+    → (id : ℕ) (k : Descriptor) → FoundOn last.device id k → FoundOn first.device id k ⊎ ((id ≡ first.core.descriptor.id) × IsOneOf (committed_on leaves) k)
