@@ -6,6 +6,7 @@ ghost use Rattle.lvm_session.specs.Judging.{is_missing};
 ghost use Rattle.lvm_session.specs.State.{state_of};
 ghost use Rattle.lvm_move_plan.specs.declared.plan.PlannedMove.{PlannedMove};
 ghost use Rattle.lvm_move_plan.specs.Planned.{planned_moves};
+ghost use Rattle.lvm_migrate.specs.Way.{IsLeftShut, MovesAsPlanned};
 ghost use Rattle.lvm_migrate.specs.Migrating.{AreFreshBut, ArePlanned, GoesBesideMoving, IsLeftEmpty, IsPlanOf, MayMigrate, MigrateGives, MoveCause, MovesAll, StandMoved, busy_or_missing, session_refusal};
 
 use crate::fault::MoveFault;
@@ -134,8 +135,9 @@ pub fn migrate<S: Shelf>(
     ensures stand { StandMoved (planned_moves driver.old.1.descriptor lv from to) driver.old.1.descriptor driver.new.1.descriptor result }
     ensures empty { IfOk result (λ moved. IsLeftEmpty lv from driver.new.1.descriptor) }
     ensures fresh { IfOk result (λ moved. AreFreshBut (planned_moves driver.old.1.descriptor lv from to) (state_of S.device driver.old) (state_of S.device driver.new)) }
-    ensures closed { IfOk result (λ moved. driver.new.1.copy ≡ None) }
+    ensures closed { driver.old.1.copy ≡ None → IsLeftShut driver.new.1 result }
     ensures caused { IfErr result (MoveCause patience.old.left (state_of S.device driver.old) (state_of S.device driver.new)) }
+    ensures way { MovesAsPlanned (planned_moves driver.old.1.descriptor lv from to) (state_of S.device driver.old) (state_of S.device driver.new) }
     ensures beside { GoesBesideMoving (state_of S.device driver.old) (state_of S.device driver.new) patience.old.left patience.new.left }
 {
     driver.is_sound();

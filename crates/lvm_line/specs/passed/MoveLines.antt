@@ -2,4 +2,4 @@
 pub use Rattle.lvm_move_lines.specs.Asking.{IsAsked, IsNamed, IsNotAsked}
 pub use Rattle.lvm_move_lines.specs.Moving.{IsMigrated, MigratepvDoes, MovesCopies, NoGroupForMoves, NotAskedForMoves, NothingMoves, move_reply}
 pub use Rattle.lvm_move_lines.specs.passed.Migrate.{MoveFault}
-pub use Rattle.lvm_move_lines.specs.passed.MovePlan.{PlannedMove, after_move, after_moves, committed_on, planned_moves, stages}
+pub use Rattle.lvm_move_lines.specs.passed.MovePlan.{PlannedMove, after_move, after_moves, planned_moves, stages}

@@ -15,12 +15,12 @@ use Rattle.lvm_session.specs.declared.open.Power.{Power}
 use Rattle.lvm_session.specs.declared.open.Power.TheVariants as power
 use Rattle.lvm_session.specs.Sound.{IsSound}
 use Rattle.lvm_session.specs.State.{Core, State, state}
-use Rattle.lvm_line.specs.passed.Tie.{IsGood, IsTied, MovesOn}
+use Rattle.lvm_line.specs.passed.Tie.{IsGood, IsTied, MovesOn, committed_on}
 use Rattle.lvm_line.proofs.passed.Tie.{going_moves_on, moves_find_theirs}
 use Rattle.lvm_line.specs.passed.TieCommands.{StandsAfter}
 use Rattle.lvm_line.specs.passed.GroupLines.{IsBetween, IsOnBetween, OfRequests, Reply, ScriptState, StandsAlone, is_unheard}
 use Rattle.lvm_line.specs.passed.RangeLines.{CarriesBy, FailsIf}
-use Rattle.lvm_line.specs.passed.MoveLines.{IsAsked, IsMigrated, MigratepvDoes, MovesCopies, NoGroupForMoves, NotAskedForMoves, NothingMoves, PlannedMove, after_move, after_moves, committed_on, planned_moves, stages}
+use Rattle.lvm_line.specs.passed.MoveLines.{IsAsked, IsMigrated, MigratepvDoes, MovesCopies, NoGroupForMoves, NotAskedForMoves, NothingMoves, PlannedMove, after_move, after_moves, planned_moves, stages}
 use Rattle.lvm_top.specs.Standing.{HasMovedSome, MayHaveCommitted, StandsForMoves}
 use Rattle.lvm_top.proofs.Devices.{NothingNew, then_nothing, same_nothing}
 use Rattle.lvm_top.proofs.LeavesLemmas.Quiet.{closed_nothing}
@@ -144,7 +144,7 @@ module _ (run : ℕ) (old new : ScriptState) (between : IsBetween old.moment old
               own = committed.0 ∙ sym (some_id core.descriptor lv from to k some_moved);
               is = subst (λ (o : Option Core). IsSomeAnd o (λ (c : Core). (n : Option ℕ) × IsAsked c.descriptor volume from to n × HasMovedSome c.descriptor n from to k)) (sym some) (lv, asked, some_moved);
             }))
-            (moves_find_theirs core.history.run may.first may.past first_session end its.way.leaves was_sound between.descriptors good_first begun
+            (moves_find_theirs may.first may.past first_session end its.way.leaves was_sound between.descriptors good_first begun
             ((stands_first may.past may.begins).spares volumes) id k (end_nothing id k it))
 
   -- what the line was to commit is a descriptor of the group

@@ -24,6 +24,7 @@ returns g c = λ bytes posts fits between stage its.
     let left = c.migrate-moved.new.patience.left in
     let result = c.migrate-moved.result in
     let gives = subst (λ (k : ℕ). MigrateGives c.args.lv c.args.from c.args.to k left (state_of device first) (state_of device end) result) c.whole.ensures c.migrate-moved.ensures.gives in
+    let shut = c.migrate-moved.ensures.closed c.requires.shut in
     let answer = c.move_reply.result in
     let says = c.move_reply.ensures.reply in
     let beside = subst (λ (n : ℕ). GoesBesideMoving (state_of device first) (state_of device end) n left) c.whole.ensures c.migrate-moved.ensures.beside in
@@ -39,9 +40,9 @@ returns g c = λ bytes posts fits between stage its.
       way = c.migrate-moved.ensures.way;
       empty = c.migrate-moved.ensures.empty;
       caused = c.migrate-moved.ensures.caused;
-      on = on_of end.1 result c.migrate-moved.ensures.closed;
+      on = on_of end.1 result shut;
       sound = c.move_reply.ensures.sound;
       leaves = fails_if device end posts bytes stage last (is_unheard answer) (table_posts first.1 end.1 beside.table posts.items between.posted) its.comes;
       says = says;
     }))
-    result c.migrate-moved.ensures.closed says its.comes
+    result shut says its.comes
