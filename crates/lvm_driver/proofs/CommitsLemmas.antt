@@ -1,12 +1,12 @@
 -- A move that is done is committed, once turns find nothing to do.
 use Rattle.std.proofs.Common.{◌≡◌, ◌≢◌, ℕ, Bool, true, false, List, length, length-set, Option, None, Some, if◌then◌else◌, refl, sym, ap, subst, ◌∙◌}
-use Rattle.std.specs.Prelude.{Err, IfErr, IfSome, Ok, Result, slice_set}
+use Rattle.std.specs.Prelude.{Err, IfErr, IfSome, Ok, Result}
 use Rattle.std.specs.Option.{option_map_or}
 use Rattle.lvm_num.specs.declared.descriptor.Descriptor.{Descriptor}
 use Rattle.lvm_num.specs.Descriptor.{IsValid}
 use Rattle.lvm_num.specs.DescriptorBytes.{descriptor_bytes}
 use Rattle.lvm_moved.specs.Moved.{moved_descriptor}
-use Rattle.lvm_disk.specs.Device.{Device}
+use Rattle.lvm_disk.specs.Device.{Device, HasSectors}
 use Rattle.lvm_commit.specs.declared.commit.CommitEnd.{CommitEnd}
 use Rattle.lvm_commit.specs.declared.commit.CommitEnd.TheVariants as commit_end
 use Rattle.lvm_commit.specs.Settling.{IsContentOf}
@@ -18,7 +18,7 @@ use Rattle.lvm_session.specs.Bringing.{with_back}
 use Rattle.lvm_session.specs.Calls.{copy_state}
 use Rattle.lvm_session.specs.Dark.{hand_of_copy, with_hands}
 use Rattle.lvm_session.specs.Fields.{core_of}
-use Rattle.lvm_session.specs.Rooms.{HasRooms, SameRooms}
+use Rattle.lvm_session.specs.Rooms.{SameRooms}
 use Rattle.lvm_session.specs.Sound.{IsCopy, IsSound}
 use Rattle.lvm_session.specs.State.{Core, State, state}
 use Rattle.lvm_core.specs.Committing.{with_one_out}
@@ -153,6 +153,18 @@ none_open (Err fault.Dark) core = refl
 none_open (Err (fault.WentOff have total)) core = refl
 none_open (Err (fault.DiskFailed disk)) core = refl
 
+-- it is committed from the bytes with which it is ready
+pub opens_commit : (before after : ℕ) (old written : State) (new : Core) (answer : Result (Unit {0}) CommitFault) (next d : Descriptor) (content : List ℕ) → next_of old.core ≡ Some next → d ≡ next → content ≡ descriptor_bytes next
+    → CommitsMove d content before after old written answer → new ≡ closed_after answer written.core → HasSectors written.device → CommitsOpenMove before after old (state written.device new) answer
+opens_commit before after old written new answer next d content ready same bytes does closed sectors = record {
+  next = next;
+  ready = ready;
+  written = written;
+  commits = subst (λ (xs : List ℕ). CommitsMove next xs before after old written answer) bytes (subst (λ (x : Descriptor). CommitsMove x content before after old written answer) same does);
+  is = ap (state written.device) closed;
+  sectors = sectors;
+}
+
 -- ---- the parts of a driver then
 
 module _ (before after : ℕ) (old new : State) (answer : Result (Unit {0}) CommitFault) (it : CommitsOpenMove before after old new answer) where
@@ -165,6 +177,10 @@ module _ (before after : ℕ) (old new : State) (answer : Result (Unit {0}) Comm
       let two = subst (λ (s : State). SameRoom it.written.core s.core) (sym it.is) (closed_room answer it.written.core) in
       record { most = two.most ∙ one.most; long = two.long ∙ one.long }
 
+pub ready : {next : Descriptor} (device : Device) (old : Session) → AreSound device old (Some next) → IsDrained (state device (core_of old)) → is_moving (core_of old) ≡ true → copy_state (core_of old) ≡ stage.Done → old.updater.stamp.epoch ≢ 0
+    → IsReadyMove (state device (core_of old)) next
+ready {next} device old it drained moves done epoch = (drained_move (state device (core_of old)) next it.1 drained moves done epoch it.2).is
+
 module _ {next : Descriptor} (device now : Device) (old new : Session) (it : AreSound device old (Some next)) (same : SameRooms old new) (drained : IsDrained (state device (core_of old)))
     (moves : is_moving (core_of old) ≡ true) (done : copy_state (core_of old) ≡ stage.Done) (epoch : old.updater.stamp.epoch ≢ 0) where
   abbrev was : State
@@ -173,8 +189,8 @@ module _ {next : Descriptor} (device now : Device) (old new : Session) (it : Are
   abbrev is : State
   is = state now (core_of new)
 
-  pub ready : IsDrainedMove was next
-  ready = drained_move was next it.1 drained moves done epoch it.2
+  drained_now : IsDrainedMove was next
+  drained_now = drained_move was next it.1 drained moves done epoch it.2
 
   pub commit_on : (before after : ℕ) (answer : Result (Unit {0}) CommitFault) → CommitsOpenMove before after was is answer → Stay LeavesMoving device now old new None
   commit_on before after answer commits = record {
@@ -187,7 +203,7 @@ module _ {next : Descriptor} (device now : Device) (old new : Session) (it : Are
   }
     where
       step : MovingStep was is
-      step = CommitsItsMove before after answer ready.copy ready.drained epoch commits
+      step = CommitsItsMove before after answer drained_now.copy drained_now.drained epoch commits
 
   pub no_disk_fails : (before after : ℕ) (answer : Result (Unit {0}) CommitFault) → CommitsOpenMove before after was is answer → IfErr answer (λ why. (disk : ℕ) → why ≡ fault.DiskFailed disk → ⊥)
-  no_disk_fails before after answer commits = disk_stays commits.next (descriptor_bytes commits.next) before after was commits.written answer ready.is.may.there commits.commits
+  no_disk_fails before after answer commits = disk_stays commits.next (descriptor_bytes commits.next) before after was commits.written answer drained_now.is.may.there commits.commits

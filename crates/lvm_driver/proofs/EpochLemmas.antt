@@ -1,8 +1,7 @@
 -- The stamp stays one of the same epoch over turns, and where a move begins or is committed.
-use Rattle.std.proofs.Common.{◌≡◌, ◌⊎◌, inl, inr, ℕ, ◌+◌, Bool, true, false, ◌&&◌, not, if◌then◌else◌, Option, Some, None, refl, sym, ap, subst, ◌∙◌}
+use Rattle.std.proofs.Common.{◌≡◌, ◌⊎◌, inl, inr, ℕ, Bool, true, false, ◌&&◌, not, if◌then◌else◌, Option, Some, None, refl, sym, ap, ◌∙◌}
 use Rattle.std.specs.Prelude.{MatchOption, Result, Ok, Err}
 use Rattle.lvm_num.specs.Buffer.{Buffer}
-use Rattle.lvm_num.specs.declared.descriptor.Descriptor.{Descriptor}
 use Rattle.lvm_num.specs.DescriptorBytes.{descriptor_bytes}
 use Rattle.lvm_num.specs.declared.place.Pp.{Pp}
 use Rattle.lvm_num.specs.declared.record.Stamp.{Stamp}
@@ -15,7 +14,6 @@ use Rattle.lvm_status.specs.Update.{Stored, Updates, is_held, is_owed, no_disks,
 use Rattle.lvm_status.specs.Calls.{after_end, closed, comes_held, given_up, with_commit, with_end as with_write_end, with_start as with_write_start, with_wanted}
 use Rattle.lvm_commit.specs.declared.commit.CommitEnd.{CommitEnd}
 use Rattle.lvm_commit.specs.declared.commit.CommitEnd.TheVariants as commit_end
-use Rattle.lvm_core.specs.declared.fault.CommitFault.{CommitFault}
 use Rattle.lvm_core.specs.declared.fault.CommitFault.TheVariants as fault
 use Rattle.lvm_session.specs.declared.answers.OpenFault.{OpenFault}
 use Rattle.lvm_session.specs.declared.answers.OpenFault.TheVariants as denial
@@ -38,7 +36,7 @@ use Rattle.lvm_session.specs.Judging.{is_running}
 use Rattle.lvm_session.specs.Marks.{WantsDirtyIf, WantsStale}
 use Rattle.lvm_session.specs.Turns.{Darkens, FinishMakes, Finishes, Makes, Moves, NoStart, OnMakes, TurnMakes, WasDark, WasOff, WasOn}
 use Rattle.lvm_move.specs.Moving.{CommitsMove, Misses, MoveEnds, Writes}
-use Rattle.lvm_going.specs.Going.{CommitsOpenMove, closed_after}
+use Rattle.lvm_going.specs.Going.{CommitsOpenMove}
 use Rattle.lvm_driver.specs.Drains.{IsTurn}
 
 -- ---- what is noted of updates
