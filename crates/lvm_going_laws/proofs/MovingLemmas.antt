@@ -201,8 +201,8 @@ module _ (commits : CommitMovesOn) where
         let descriptors = so_far.1.descriptors leaves in
         ⊎_elim
         (λ before. ⊎_elim
-            (λ first_found. inl first_found)
-            (λ on_way. inr (on_way.0, one_more (committed_on path) (next_on step) k on_way.1))
-            (finds_by_commits moment past first mid path sound leaves good begins spares id k before))
+        (λ first_found. inl first_found)
+        (λ on_way. inr (on_way.0, one_more (committed_on path) (next_on step) k on_way.1))
+        (finds_by_commits moment past first mid path sound leaves good begins spares id k before))
         (λ next. inr (next.0 ∙ ap (λ (d : Descriptor). d.id) so_far.1.keeps.alike, one_behind (committed_on path) (next_on step) k next.1))
         (step_finds past mid last step so_far.0 descriptors.leaves (λ on. (so_far.1.good moment good).0 on past begins) (descriptors.spares spares) id k found)

@@ -241,11 +241,10 @@ module _ (patience between left : ℕ) (old ended new : State) (sound : IsSound 
         → it.written.core ≡ all_off (record ended.core { status = w.last; homes = w.homes }) → new.core ≡ closed_after (Err (commit.WentOff have total)) it.written.core → MoveCause patience old new (fault.WentOff have total)
     off_cause have total w lost off is =
         let group_is : w.last.group ≡ record ended.core.descriptor { lvs = [] } = w.leaves.loses.group ∙ sound.fitting.group in
-        let core_is : new.core ≡ closed (all_off (record ended.core { status = w.last; homes = w.homes })) = is ∙ ap closed off in
-        (
+        let core_is : new.core ≡ closed (all_off (record ended.core { status = w.last; homes = w.homes })) = is ∙ ap closed off in (
           ap (λ (c : Core). c.power) core_is,
           lost.have_is ∙ ap (λ (g : Descriptor). votes_in g (members_there g w.last.wanted)) group_is ∙ sym (ap (λ (c : Core). votes_there c) core_is),
-          lost.total_is ∙ ap (λ (g : Descriptor). total_votes g) group_is ∙ sym (ap (λ (c : Core). total_votes c.descriptor) core_is)
+          lost.total_is ∙ ap (λ (g : Descriptor). total_votes g) group_is ∙ sym (ap (λ (c : Core). total_votes c.descriptor) core_is),
         )
 
     stuck_cause : RoseBy between ended.device.counts.waits it.written.device.counts.waits → MoveCause patience old new fault.Stuck

@@ -17,11 +17,7 @@ use lvm_transfer::Patience;
 use std::alloc::Global;
 
 // The copy begins to move.
-fn open<S: Shelf>(
-    driver: &mut Driver<S>,
-    alloc: Global,
-    one: PlannedMove,
-) -> Result<(), MoveFault>
+fn open<S: Shelf>(driver: &mut Driver<S>, alloc: Global, one: PlannedMove) -> Result<(), MoveFault>
     requires unstuck { driver.old.1.power ≡ power.Stuck → ⊥ }
     requires apart { IsApart driver.old.1.descriptor one.copy.lv one.copy.lp one.copy.number one.to }
     requires may { MayOpen driver.old.1 one }
@@ -65,10 +61,8 @@ fn ended(how: CopyState, lp: u32) -> MoveFault
     match how {
         CopyState::SyncFailed { disk } => MoveFault::SyncFailed { disk },
         CopyState::NoFresh => MoveFault::NoFresh { lp },
-        CopyState::Closed
-        | CopyState::Running { cursor: _ }
-        | CopyState::Done
-        | CopyState::Ended => unreachable!(),
+        CopyState::Closed | CopyState::Running { cursor: _ } | CopyState::Done | CopyState::Ended =>
+            unreachable!(),
     }
 }
 
