@@ -18,6 +18,7 @@ use Rattle.lvm_vol.specs.Log.{Log, cut_log, is_answered, is_open, is_uncut, take
 use Rattle.lvm_commit.specs.declared.commit.CommitEnd.{CommitEnd}
 use Rattle.lvm_commit.specs.declared.commit.CommitEnd.TheVariants as commit_end
 use Rattle.lvm_core.specs.declared.fault.CommitFault.{CommitFault}
+use Rattle.lvm_core.specs.Committing.{with_one_out}
 use Rattle.lvm_core.proofs.CommittingLemmas.Spanning.{path_falls}
 use Rattle.lvm_core.specs.declared.fault.CommitFault.TheVariants as fault
 use Rattle.lvm_move.specs.Moving.{CommitsMove, Misses, MoveEnds, Writes}
@@ -201,7 +202,7 @@ module _ (before after : ℕ) (old new : State) (answer : Result (Unit {0}) Comm
       by : (how : CommitEnd) → MoveEnds it.next w.last w.homes old.core it.written.core how answer → KeepsTable old.core it.written.core
       by (commit_end.Done back) goes = same_table old.core it.written.core (λ client id. ap (λ (c : Core). list_any (is_asked client id) c.requests) goes.1.is) (ap (λ (c : Core). length c.requests) goes.1.is) (ap (λ (c : Core). c.history) goes.1.is)
       by (commit_end.WentOff have total back) goes = off_table old.core (record old.core { status = w.last; homes = w.homes }) it.written.core sound.told.ordered refl refl goes.1
-      by commit_end.Dark goes = dark_table old.core _ it.written.core sound.told.ordered refl refl goes.1
+      by commit_end.Dark goes = dark_table old.core (record old.core { pool = with_one_out old.core.pool; status = w.last; homes = w.homes }) it.written.core sound.told.ordered refl refl goes.1
       by commit_end.Stuck goes = same_table old.core it.written.core (λ client id. ap (λ (c : Core). list_any (is_asked client id) c.requests) goes.1) (ap (λ (c : Core). length c.requests) goes.1) (ap (λ (c : Core). c.history) goes.1)
 
   closes_table : (how : Result (Unit {0}) CommitFault) (core : Core) → KeepsTable core (closed_after how core)

@@ -197,6 +197,11 @@ cause_unopened patience m copies old new why against opens = subst (MoveCause pa
     so (denial.Missing disk) (ItsDiskIsMissing is) = is
     so denial.NoFresh (NoneIsUsable is) = tt
     so denial.HistoryFull (FewNumbers is) = is
+    so denial.Busy it = elim it [ ]
+    so denial.NoVolume it = elim it [ ]
+    so denial.OutOfRange it = elim it [ ]
+    so denial.InUse it = elim it [ ]
+    so denial.Memory it = elim it [ ]
 
     moved : (denied : OpenFault) → fault_of_move old.core m ≡ Some denied → MoveCause patience old new (opening_fault_is denied m.copy.lp off)
     moved denied is = subst (λ (s : State). MoveCause patience old s (opening_fault_is denied m.copy.lp off)) (sym opens.0) (so denied (against denied is))
@@ -228,11 +233,11 @@ rose_by_both one two = record { later = omega (arith, one.later, two.later); ris
 
 module _ (patience between left : ℕ) (old ended new : State) (sound : IsSound ended) (beside : GoesBesideMoving old ended patience between) where
   module _ (why : CommitFault) (it : CommitsOpenMove between left ended new (Err why)) where
-    done_not : {X : Type 0} → Err why ≡ Ok tt → X
+    done_not : {X : Type 0} → ◌≡◌ {A = Result (Unit {0}) CommitFault} (Err why) (Ok tt) → X
     done_not e = absurd (cc e)
 
     -- as what it is answered says
-    so : (u : CommitFault) → Err why ≡ Err u → (new.core ≡ closed_after (Err u) it.written.core → MoveCause patience old new (commit_fault_is u)) → MoveCause patience old new (commit_fault_is why)
+    so : (u : CommitFault) → ◌≡◌ {A = Result (Unit {0}) CommitFault} (Err why) (Err u) → (new.core ≡ closed_after (Err u) it.written.core → MoveCause patience old new (commit_fault_is u)) → MoveCause patience old new (commit_fault_is why)
     so u e cause =
         let same : why ≡ u = cc e in
         subst (λ (x : CommitFault). MoveCause patience old new (commit_fault_is x)) (sym same) (cause (ap (λ (s : State). s.core) it.is ∙ ap (λ (x : CommitFault). closed_after (Err x) it.written.core) same))
@@ -241,10 +246,11 @@ module _ (patience between left : ℕ) (old ended new : State) (sound : IsSound 
         → it.written.core ≡ all_off (record ended.core { status = w.last; homes = w.homes }) → new.core ≡ closed_after (Err (commit.WentOff have total)) it.written.core → MoveCause patience old new (fault.WentOff have total)
     off_cause have total w lost off is =
         let group_is : w.last.group ≡ record ended.core.descriptor { lvs = [] } = w.leaves.loses.group ∙ sound.fitting.group in
-        let core_is : new.core ≡ closed (all_off (record ended.core { status = w.last; homes = w.homes })) = is ∙ ap closed off in (
+        let core_is : new.core ≡ closed (all_off (record ended.core { status = w.last; homes = w.homes })) = is ∙ ap closed off in
+        (
           ap (λ (c : Core). c.power) core_is,
           lost.have_is ∙ ap (λ (g : Descriptor). votes_in g (members_there g w.last.wanted)) group_is ∙ sym (ap (λ (c : Core). votes_there c) core_is),
-          lost.total_is ∙ ap (λ (g : Descriptor). total_votes g) group_is ∙ sym (ap (λ (c : Core). total_votes c.descriptor) core_is),
+          lost.total_is ∙ ap (λ (g : Descriptor). total_votes g) group_is ∙ sym (ap (λ (c : Core). total_votes c.descriptor) core_is)
         )
 
     stuck_cause : RoseBy between ended.device.counts.waits it.written.device.counts.waits → MoveCause patience old new fault.Stuck
@@ -317,7 +323,7 @@ commit_group between left ended new why it = ap (λ (s : State). s.core.descript
     closes (Err (commit.WentOff have total)) core = refl
     closes (Err (commit.DiskFailed disk)) core = refl
 
-    done_not : {X : Type 0} → Err why ≡ Ok tt → X
+    done_not : {X : Type 0} → ◌≡◌ {A = Result (Unit {0}) CommitFault} (Err why) (Ok tt) → X
     done_not e = absurd (cc e)
 
     of : CommitsMove it.next (descriptor_bytes it.next) between left ended it.written (Err why) → it.written.core.descriptor ≡ ended.core.descriptor

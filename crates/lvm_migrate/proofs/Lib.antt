@@ -6,5 +6,6 @@ pub mod CommittedLemmas
 pub mod MarksLemmas
 pub mod CausesLemmas
 pub mod WorkedLemmas
+pub mod WayLemmas
 pub mod OneLemmas
 pub mod MigratingLemmas

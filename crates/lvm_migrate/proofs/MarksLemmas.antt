@@ -104,7 +104,7 @@ module _ (first old new : State) (answer : Turned) (sound : IsSound old) (made :
 -- ---- turns beside a move to another place
 
 apart_of : (begun : OpenCopy) (core : Core) (p : Pp) → IsOpenMove begun core → p ≢ begun.pp → is_destination core p ≡ false
-apart_of begun core p it other =
+apart_of begun now p it other =
     ap (λ m. option_map_or (λ (c : OpenCopy). c.moves && is_pp p c.pp) m false) it.is_open ∙ ap (λ (q : Pp). it.copy.moves && is_pp p q) it.its.0 ∙ by it.copy.moves (is_pp p begun.pp) refl
   where
     by : (a b : Bool) → is_pp p begun.pp ≡ b → a && b ≡ false
@@ -120,11 +120,11 @@ turns_there first disk {last = last} sound (Then {m = mid} path turn there) it =
 
 pub turns_clean : {P : State → Type 0} (first : State) (begun : OpenCopy) (p : Pp) {old last : State} → IsSound old → IsOpenMove begun old.core → p ≢ begun.pp → Path IsTurn P old last → last.core.power ≡ power.On
     → IsCleanSince first old p → IsCleanSince first last p × IsSound last
-turns_clean first begun p sound open other (Here here) on it = (it, sound)
-turns_clean first begun p {last = last} sound open other (Then {m = mid} path turn there) on it =
+turns_clean first begun p sound opens other (Here here) on it = (it, sound)
+turns_clean first begun p {last = last} sound opens other (Then {m = mid} path turn there) on it =
     let before_on = turn_on mid last turn.0 turn.1 on in
-    let before = turns_clean first begun p sound open other path before_on it in
-    (turn_clean first mid last turn.0 before.1 turn.1 p (apart_of begun mid.core p (turns_open begun open path before_on) other) before.0, turn_keeps mid last turn.0 before.1 turn.1)
+    let before = turns_clean first begun p sound opens other path before_on it in
+    (turn_clean first mid last turn.0 before.1 turn.1 p (apart_of begun mid.core p (turns_open begun opens path before_on) other) before.0, turn_keeps mid last turn.0 before.1 turn.1)
 
 -- ---- it is opened
 
@@ -150,8 +150,8 @@ module _ (first old new : State) (device : new.device ≡ old.device) {lv lp num
 
 -- a request that waits for admission has failed nowhere
 none_fails : (core : Core) (p : Pp) (os : List Open) → AllByRecursion (IsOpenOne core) os → AllByRecursion IsUnadmitted os → list_any (fails_on p) os ≡ false
-none_fails core p [] its held = refl
-none_fails core p (o ∷ os) its held = ap (λ b. b || list_any (fails_on p) os) (by (is_waiting o) refl) ∙ none_fails core p os its.1 held.1
+none_fails now p [] its held = refl
+none_fails now p (o ∷ os) its held = ap (λ b. b || list_any (fails_on p) os) (by (is_waiting o) refl) ∙ none_fails now p os its.1 held.1
   where
     none : is_waiting o ≡ true → o.request.targets.items ≡ []
     none e = (subst (λ (f : Phase). IsPhase f o) (held.0 e) (its.0.waits e).shape.phase_is).0
@@ -262,7 +262,7 @@ module _ (first old new : State) (before after : ℕ) (it : CommitsOpenMove befo
           of false held any = sym (ap (λ b. b || is_wanted_stale core_now p) held) ∙ any
 
       absent_gone : IsFalse (members_there last.group last.wanted p.disk) → calls_missing last.wanted p.disk ≡ true
-      absent_gone absent = second_with_first (is_member old.core.descriptor p.disk) (calls_missing last.wanted p.disk) (ap (λ b. b && not (calls_missing last.wanted p.disk)) (sym members_are) ∙ absent) member
+      absent_gone absent = second_with_first (is_member old.core.descriptor p.disk) (calls_missing last.wanted p.disk) member (ap (λ b. b && not (calls_missing last.wanted p.disk)) (sym members_are) ∙ absent)
         where
           members_are : is_member last.group p.disk ≡ is_member old.core.descriptor p.disk
           members_are = ap (λ (g : Descriptor). is_member g p.disk) (well.w.leaves.loses.group ∙ sound.fitting.group)

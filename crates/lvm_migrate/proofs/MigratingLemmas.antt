@@ -10,7 +10,7 @@ use Rattle.lvm_num.specs.declared.descriptor.PvRow.{PvRow}
 use Rattle.lvm_num.specs.declared.descriptor.Descriptor.{Descriptor}
 use Rattle.lvm_num.specs.Descriptor.{IsValid, is_member, member_of}
 use Rattle.lvm_num.proofs.Lists.{found_any}
-use Rattle.lvm_disk.specs.Counts.{Rose}
+use Rattle.lvm_disk.specs.Counts.{NoneFalls, Rose}
 use Rattle.lvm_moved.specs.Moved.{MayStandOn}
 use Rattle.lvm_num.specs.Votes.{total_votes}
 use Rattle.lvm_session.specs.declared.bringing.OpenCopy.{OpenCopy}
@@ -33,6 +33,7 @@ use Rattle.lvm_move_plan.proofs.LawsLemmas.{empty_disks, places_lowest}
 use Rattle.lvm_migrate.specs.declared.fault.MoveFault.{MoveFault}
 use Rattle.lvm_migrate.specs.declared.fault.MoveFault.TheVariants as fault
 use Rattle.lvm_migrate.specs.Faults.{plan_fault_is}
+use Rattle.lvm_migrate.specs.Committed.{GoesCommitting, MovesAsPlanned, stages}
 use Rattle.lvm_migrate.specs.Migrating.{AreFreshBut, ArePlanned, GoesBesideMoving, HaveMoved, IsLeftEmpty, IsPlanOf, IsRefused, LacksMemory, MigrateGives, Migrates, MoveCause, MovesAll, NoneMoved, OneMoved, Plans, SomeStandMoved, StandMoved, StandsAgainst, StopsAmong, WantsMemory, busy_or_missing, further_refusal, migrate_refusal, refusal_by, session_refusal}
 use Rattle.lvm_migrate.specs.Moving.{CommitGives, Opens, StopsAt}
 use Rattle.lvm_migrate.proofs.BesideLemmas.{beside_both, beside_none, turns_sound}
@@ -42,6 +43,7 @@ use Rattle.lvm_migrate.proofs.MarksLemmas.{IsCleanSince, IsThereSince, commit_cl
 use Rattle.lvm_migrate.proofs.MovingLemmas.{begun, just, opened_so, still}
 use Rattle.lvm_migrate.proofs.OpeningLemmas.{planned_apart}
 use Rattle.lvm_migrate.proofs.TurnsLemmas.{IsOpenMove}
+use Rattle.lvm_migrate.proofs.WayLemmas.{going_both, going_none, going_some, stage_of}
 
 -- ---- the plan
 
@@ -134,10 +136,11 @@ pub record MovedSoFar (first now : State) (patience left : ℕ) (moves : List Pl
   pub have : HaveMoved first patience (take k moves) now left
   pub plan : IsPlanOf now.core.descriptor (drop k moves)
   pub shut : now.core.copy ≡ None
-  pub unstuck : now.core.power ≡ power.Stuck → ⊥
+  pub on : now.core.power ≡ power.On
   pub epoch : now.core.status.stamp.epoch ≢ 0
   pub beside : GoesBesideMoving first now patience left
   pub later : IsLater first now
+  pub way : MovesAsPlanned moves first now
   pub members : now.core.descriptor.pvs ≡ first.core.descriptor.pvs
   pub there : (j : ℕ) (d : PlannedMove) → j < length moves → IsThereSince first now (get_or moves j d).to.disk
   pub clean : (j : ℕ) (d : PlannedMove) → j < k → j < length moves → IsCleanSince first now (get_or moves j d).to
@@ -156,16 +159,17 @@ places_of d moves plan =
       rise = subst (AllPairs (λ (a b : PlannedMove). a.to.pp < b.to.pp)) plan.is law.1;
     }
 
-pub none_so_far : (first : State) (left : ℕ) (moves : List PlannedMove) → IsPlanOf first.core.descriptor moves → first.core.copy ≡ None → (first.core.power ≡ power.Stuck → ⊥) → first.core.status.stamp.epoch ≢ 0
+pub none_so_far : (first : State) (left : ℕ) (moves : List PlannedMove) → IsPlanOf first.core.descriptor moves → first.core.copy ≡ None → first.core.power ≡ power.On → first.core.status.stamp.epoch ≢ 0
     → All (λ (m : PlannedMove). is_missing first.core m.to.disk ≡ false) moves → MovedSoFar first first left left moves 0
-none_so_far first left moves plan shut unstuck epoch there = record {
+none_so_far first left moves plan shut on epoch there = record {
   have = NoneMoved;
   plan = plan;
   shut = shut;
-  unstuck = unstuck;
+  on = on;
   epoch = epoch;
   beside = beside_none first left;
   later = later_same first;
+  way = going_none (λ (k : Descriptor). IsOneOf (stages first.core.descriptor moves) k) first;
   members = refl;
   there = λ j d lt. record { gone = λ gone. absurd (let e : false ≡ true = sym (there j d lt) ∙ gone in cc e); later = omega arith };
   clean = λ j d less lt. absurd (omega (arith, less));
@@ -192,26 +196,48 @@ module _ (first old : State) (patience left : ℕ) (moves : List PlannedMove) (k
   pub stands_next : IsValid old.core.descriptor → MayStandOn old.core.descriptor m.copy.lv m.copy.lp m.copy.number m.to
   stands_next valid = may_stand old.core.descriptor m (drop (suc k) moves) valid plan_now
 
+  pub unstuck_next : old.core.power ≡ power.Stuck → ⊥
+  unstuck_next stuck = let e : power.On ≡ power.Stuck = sym so_far.on ∙ stuck in cc e
+
+  whole : (l : List PlannedMove) (n : ℕ) → take n l ++ drop n l ≡ l
+  whole [] zero = refl
+  whole [] (suc n) = refl
+  whole (x ∷ l) zero = refl
+  whole (x ∷ l) (suc n) = ap (λ (r : List PlannedMove). x ∷ r) (whole l n)
+
+  whole_here : moves ≡ take k moves ++ m ∷ drop (suc k) moves
+  whole_here = sym (whole moves k) ∙ ap (λ (l : List PlannedMove). take k moves ++ l) (dropped moves k d lt)
+
+  -- what is being committed then is one of the stages
+  pub way_next : (new : State) → NoneFalls old.device.counts new.device.counts → GoesCommitting (λ (x : Descriptor). x ≡ after_move old.core.descriptor m) old new → MovesAsPlanned moves first new
+  way_next new counts way =
+      going_both (λ (x : Descriptor). IsOneOf (stages first.core.descriptor moves) x) first old new so_far.beside.counts counts so_far.way
+      (going_some (λ (x : Descriptor). x ≡ after_move old.core.descriptor m) (λ (x : Descriptor). IsOneOf (stages first.core.descriptor moves) x) here old new way)
+    where
+      here : (x : Descriptor) → x ≡ after_move old.core.descriptor m → IsOneOf (stages first.core.descriptor moves) x
+      here x is =
+          subst (IsOneOf (stages first.core.descriptor moves)) (sym (is ∙ ap (λ (g : Descriptor). after_move g m) (moved_stand so_far.have)))
+          (subst (λ (l : List PlannedMove). IsOneOf (stages first.core.descriptor l) (after_move (after_moves first.core.descriptor (take k moves)) m)) (sym whole_here) (stage_of first.core.descriptor (take k moves) m (drop (suc k) moves)))
+
   pub stops_here : (after : ℕ) (new : State) (why : MoveFault) → StopsAt m left after old new why → StopsAmong moves patience after first new why
   stops_here after new why stops = record {
     moved = take k moves;
     one = m;
     rest = drop (suc k) moves;
-    all = sym (whole moves k) ∙ ap (λ (l : List PlannedMove). take k moves ++ l) (dropped moves k d lt);
+    all = whole_here;
     mid = old;
     before = left;
     have = so_far.have;
     stops = stops;
   }
-    where
-      whole : (l : List PlannedMove) (n : ℕ) → take n l ++ drop n l ≡ l
-      whole [] zero = refl
-      whole [] (suc n) = refl
-      whole (x ∷ l) zero = refl
-      whole (x ∷ l) (suc n) = ap (λ (r : List PlannedMove). x ∷ r) (whole l n)
+
+  pub stops_mid : (after : ℕ) (new : State) (why : MoveFault) (stops : StopsAt m left after old new why) → (stops_here after new why stops).mid ≡ old
+    unfolding stops_here
+  stops_mid after new why stops = refl
 
   -- it has moved
-  module _ (after : ℕ) (new : State) (sound : IsSound old) (places : IsPlanOf first.core.descriptor moves) (gives : CommitGives m left after old new (Ok tt)) (beside : GoesBesideMoving old new left after) where
+  module _ (after : ℕ) (new : State) (sound : IsSound old) (places : IsPlanOf first.core.descriptor moves) (gives : CommitGives m left after old new (Ok tt)) (beside : GoesBesideMoving old new left after)
+      (way : GoesCommitting (λ (x : Descriptor). x ≡ after_move old.core.descriptor m) old new) where
     stands : MayStandOn old.core.descriptor m.copy.lv m.copy.lp m.copy.number m.to
     stands = stands_next sound.fitting.valid
 
@@ -237,12 +263,13 @@ module _ (first old : State) (patience left : ℕ) (moves : List PlannedMove) (k
       have = subst (λ (l : List PlannedMove). HaveMoved first patience l new after) (sym (taken moves k d lt) ∙ ap (λ (n : ℕ). take n moves) next) (OneMoved m so_far.have gives);
       plan = subst (λ (n : ℕ). IsPlanOf new.core.descriptor (drop n moves)) next (plan_next m left after old new gives (drop (suc k) moves) sound.fitting.valid plan_now);
       shut = is_shut m left after old new gives;
-      unstuck = λ stuck. let e : power.On ≡ power.Stuck = sym (goes_on_still m left after old new gives) ∙ stuck in cc e;
+      on = goes_on_still m left after old new gives;
       epoch = λ none. so_far.epoch (sym (epoch_stays m left after old new gives) ∙ none);
       beside = beside_both first old new patience left after so_far.beside beside;
       later = later_both first old new so_far.later (later_moved m left after old new gives);
-      members = members_new first m left after old new sound so_far.unstuck stands gives ∙ so_far.members;
-      there = λ j e j-lt. there_new first m left after old new sound so_far.unstuck stands gives (get_or moves j e).to.disk (so_far.there j e j-lt);
+      way = way_next new beside.counts way;
+      members = members_new first m left after old new sound unstuck_next stands gives ∙ so_far.members;
+      there = λ j e j-lt. there_new first m left after old new sound unstuck_next stands gives (get_or moves j e).to.disk (so_far.there j e j-lt);
       clean = λ j e less j-lt. subst (λ (x : PlannedMove). IsCleanSince first new x.to) (sym (same_at j e j-lt)) (by j j-lt (cases_eq j k) less);
     }
       where
@@ -251,8 +278,8 @@ module _ (first old : State) (patience left : ℕ) (moves : List PlannedMove) (k
 
         by : (j : ℕ) → j < length moves → (j ≡ k) ⊎ (j ≢ k) → j < k + 1 → IsCleanSince first new (get_or moves j d).to
         by j j-lt (inl same) less = subst (λ (n : ℕ). IsCleanSince first new (get_or moves n d).to) (sym same)
-            (place_new first m left after old new sound so_far.unstuck stands gives (member_old k lt) (so_far.there k d lt))
-        by j j-lt (inr other) less = clean_new first m left after old new sound so_far.unstuck stands gives (get_or moves j d).to (apart j (omega (arith, less, other))) (member_old j j-lt) (so_far.clean j d (omega (arith, less, other)) j-lt)
+            (place_new first m left after old new sound unstuck_next stands gives (member_old k lt) (so_far.there k d lt))
+        by j j-lt (inr other) less = clean_new first m left after old new sound unstuck_next stands gives (get_or moves j d).to (apart j (omega (arith, less, other))) (member_old j j-lt) (so_far.clean j d (omega (arith, less, other)) j-lt)
 
 -- ---- all of them
 
@@ -280,6 +307,7 @@ some_stand first new moves patience left why it same = record { moved = it.moved
 
 -- nothing stands against it
 pub record MayBegin (core : Core) (lv : Option ℕ) (from to : ℕ) : Type 0 where
+  pub on : (core.power ≡ power.Stuck → ⊥) → core.power ≡ power.On
   pub shut : core.copy ≡ None
   pub there : is_missing core to ≡ false
   pub fine : plan_refusal core.descriptor lv from to ≡ None
@@ -356,13 +384,22 @@ module _ (core : Core) (lv : Option ℕ) (from to : ℕ) (none : migrate_refusal
       by power.Stuck e = e
       by power.On e = e
 
+  goes_on_then : (core.power ≡ power.Stuck → ⊥) → core.power ≡ power.On
+  goes_on_then unstuck = by core.power refl session_none
+    where
+      by : (p : Power) → core.power ≡ p → refusal_by p core (busy_or_missing core to) ≡ None → core.power ≡ power.On
+      by power.Dark is e = absurd (cc e)
+      by power.Off is e = absurd (cc e)
+      by power.Stuck is e = absurd (unstuck is)
+      by power.On is e = is
+
   pub may_begin : MayBegin core lv from to
   may_begin = by core.copy (is_missing core to) refl refl busy_none
     where
       by : (o : Option OpenCopy) (b : Bool) → core.copy ≡ o → is_missing core to ≡ b → (if is_some o then Some fault.Busy else if b then Some (fault.Missing to) else None) ≡ None → MayBegin core lv from to
       by (Some c) b shut there e = absurd (cc e)
       by None true shut there e = absurd (cc e)
-      by None false shut there e = record { shut = shut; there = there; fine = plan_none }
+      by None false shut there e = record { on = goes_on_then; shut = shut; there = there; fine = plan_none }
 
 pub plan_of : (d : Descriptor) (lv : Option ℕ) (from to : ℕ) → from ≢ to → plan_refusal d lv from to ≡ None → IsPlanOf d (planned_moves d lv from to)
 plan_of d lv from to differ fine = record { lv = lv; from = from; to = to; differ = differ; fine = fine; is = refl }
@@ -379,10 +416,14 @@ module _ (s : State) (lv : Option ℕ) (from to patience : ℕ) (why : MoveFault
   pub refused_gives : MigrateGives lv from to patience patience s s (Err why)
   refused_gives = by planned
     where
+      -- the one answer as the other
+      answered : {u : MoveFault} → ◌≡◌ {A = Result (List PlannedMove) MoveFault} (Err why) (Err u) → ◌≡◌ {A = Result ℕ MoveFault} (Err why) (Err u)
+      answered {u} is = let same : why ≡ u = cc is in ap (λ (w : MoveFault). let r : Result ℕ MoveFault = Err w in r) same
+
       by : ArePlanned s.core lv from to (Err why) → MigrateGives lv from to patience patience s s (Err why)
       by (Plans none is) = absurd (let e : Err why ≡ Ok (planned_moves s.core.descriptor lv from to) = is in cc e)
-      by (StandsAgainst other against is) = IsRefused other against (let e : Err why ≡ Err other = is in (let same : why ≡ other = cc e in ap (λ (w : MoveFault). Err w) same), refl, refl)
-      by (WantsMemory fine is) = LacksMemory fine (let e : Err why ≡ Err fault.Memory = is in (let same : why ≡ fault.Memory = cc e in ap (λ (w : MoveFault). Err w) same), refl, refl)
+      by (StandsAgainst other against is) = IsRefused other against (answered is, refl, refl)
+      by (WantsMemory fine is) = LacksMemory fine (answered is, refl, refl)
 
   pub refused_cause : MoveCause patience s s why
   refused_cause = by planned
@@ -397,10 +438,14 @@ refused_stand moves d = record { moved = []; rest = moves; all = refl; is = refl
 
 -- they are planned
 pub planned_so : (core : Core) (lv : Option ℕ) (from to : ℕ) (moves : List PlannedMove) → ArePlanned core lv from to (Ok moves) → (migrate_refusal core lv from to ≡ None) × (moves ≡ planned_moves core.descriptor lv from to)
-planned_so core lv from to moves (Plans none is) = let e : Ok moves ≡ Ok (planned_moves core.descriptor lv from to) = is in let same : moves ≡ planned_moves core.descriptor lv from to = cc e in (none, same)
+planned_so core lv from to moves (Plans none is) = let same : moves ≡ planned_moves core.descriptor lv from to = cc is in (none, same)
 planned_so core lv from to moves (StandsAgainst why against is) = absurd (let e : Ok moves ≡ Err why = is in cc e)
 planned_so core lv from to moves (WantsMemory fine is) = absurd (let e : Ok moves ≡ Err fault.Memory = is in cc e)
 
 -- once all have moved no copy that was asked for stands there
 pub left_empty : (d new : Descriptor) (lv : Option ℕ) (from to : ℕ) → IsValid d → from ≢ to → plan_refusal d lv from to ≡ None → new ≡ after_moves d (planned_moves d lv from to) → IsLeftEmpty lv from new
 left_empty d new lv from to valid differ fine is = subst (IsLeftEmpty lv from) (sym is) (empty_disks d lv from to valid differ fine).1
+
+pub if_left_empty : (d new : Descriptor) (lv : Option ℕ) (from to : ℕ) (answer : Result ℕ MoveFault) → IsValid d → from ≢ to → plan_refusal d lv from to ≡ None → StandMoved (planned_moves d lv from to) d new answer → IfOk answer (λ moved. IsLeftEmpty lv from new)
+if_left_empty d new lv from to (Ok moved) valid differ fine is = left_empty d new lv from to valid differ fine is
+if_left_empty d new lv from to (Err why) valid differ fine is = tt

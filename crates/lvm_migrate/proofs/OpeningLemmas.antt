@@ -141,11 +141,11 @@ module _ (core : Core) (m : PlannedMove) (valid : IsValid core.descriptor) (none
 
       by : (u g l h : Bool) → u ≡ false → is_missing core m.to.disk ≡ g → list_any (is_usable core) those ≡ l → has_numbers core ≡ h
           → (if u then Some denial.InUse else if g then Some (denial.Missing m.to.disk) else if not l then Some denial.NoFresh else if h then None else Some denial.HistoryFull) ≡ Some why → StandsAgainstIt core m those why
-      by true g l h no is_g is_l is_h f = absurd (cc no)
-      by false true l h no is_g is_l is_h f = so (denial.Missing m.to.disk) f (ItsDiskIsMissing is_g)
-      by false false false h no is_g is_l is_h f = so denial.NoFresh f (NoneIsUsable is_l)
-      by false false true true no is_g is_l is_h f = absurd (cc f)
-      by false false true false no is_g is_l is_h f = so denial.HistoryFull f (FewNumbers is_h)
+      by true g l h clear is_g is_l is_h f = absurd (cc clear)
+      by false true l h clear is_g is_l is_h f = so (denial.Missing m.to.disk) f (ItsDiskIsMissing is_g)
+      by false false false h clear is_g is_l is_h f = so denial.NoFresh f (NoneIsUsable is_l)
+      by false false true true clear is_g is_l is_h f = absurd (cc f)
+      by false false true false clear is_g is_l is_h f = so denial.HistoryFull f (FewNumbers is_h)
 
   pub stands_against : (why : OpenFault) → fault_of_move core m ≡ Some why → StandsAgainstIt core m those why
   stands_against why e = by core.power refl e
@@ -196,5 +196,5 @@ module _ (counts : Counts) (old new : Core) (m : PlannedMove) where
     where
       by : (o : Option OpenFault) → fault_of_move old m ≡ o → GivesBy (Err why) o → ((fault_of_move old m ≡ None) × (why ≡ denial.Memory) × (new ≡ old)) ⊎ ((fault_of_move old m ≡ Some why) × (new ≡ old))
       by None is (inl it) = absurd (let e : Err why ≡ Ok tt = it.0 in cc e)
-      by None is (inr it) = let e : Err why ≡ Err denial.Memory = it.0 in let same : why ≡ denial.Memory = cc e in inl (is, same, it.1)
-      by (Some other) is it = let e : Err why ≡ Err other = it.0 in let same : why ≡ other = cc e in inr (is ∙ ap (λ (w : OpenFault). Some w) (sym same), it.1)
+      by None is (inr it) = let same : why ≡ denial.Memory = cc it.0 in inl (is, same, it.1)
+      by (Some other) is it = let same : why ≡ other = cc it.0 in inr (is ∙ ap (λ (w : OpenFault). Some w) (sym same), it.1)

@@ -162,7 +162,7 @@ module _ (begun : OpenCopy) (old : State) (was : IsOpenMove begun old.core) wher
     on_open answer (Finishes none made) = finish_open answer made
 
 -- a session that goes on behind a turn went on before, and has it open still
-turn_on : (old new : State) (answer : Turned) → TurnMakes old new answer → new.core.power ≡ power.On → old.core.power ≡ power.On
+pub turn_on : (old new : State) (answer : Turned) → TurnMakes old new answer → new.core.power ≡ power.On → old.core.power ≡ power.On
 turn_on old new answer (WasDark dark is same) on = ap (λ (s : State). s.core.power) (sym same) ∙ on
 turn_on old new answer (WasOff off is same) on = ap (λ (s : State). s.core.power) (sym same) ∙ on
 turn_on old new answer (WasOn was made) on = was

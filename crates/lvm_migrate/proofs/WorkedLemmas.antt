@@ -13,7 +13,7 @@ asked_of m = record {
   first = refl;
   second = refl;
   differ = λ same. cc same;
-  volume = λ n is. let one : 1 ≡ n = cc is in subst (λ (k : ℕ). IsSome (volume_of (mirrored m) k)) one tt;
+  volume = λ n is. let one : 1 ≡ n = cc is in subst (λ (k : ℕ). IsSome (volume_of (mirrored m) k)) one refl;
 }
 
 pub mirrors_may_migrate : MirrorsMayMigrate

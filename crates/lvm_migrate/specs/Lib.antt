@@ -1,5 +1,5 @@
 pub mod Faults
 pub mod Moving
+pub mod Committed
 pub mod Migrating
-pub mod Way
 pub mod Worked

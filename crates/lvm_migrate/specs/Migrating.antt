@@ -120,6 +120,12 @@ StandMoved moves d new (Err why) = SomeStandMoved moves d new
 abbrev pub IsLeftEmpty : Option ℕ → ℕ → Descriptor → Type 0
 IsLeftEmpty lv from d = standing_on d lv from ≡ []
 
+-- No copy is left open where the session goes on, unless nothing was heard of a transfer. Where all have moved it goes on.
+abbrev pub IsLeftShut : {A : Type 0} → Core → Result A MoveFault → Type 0
+IsLeftShut core (Ok moved) = (core.power ≡ power.On) × (core.copy ≡ None)
+IsLeftShut core (Err fault.Stuck) = Unit {0}
+IsLeftShut core (Err why) = (core.power ≡ power.On → core.copy ≡ None) × (core.power ≡ power.Stuck → ⊥)
+
 -- a copy that has moved is stale only where a transfer of its disk has failed meanwhile
 abbrev pub AreFreshBut : List PlannedMove → State → State → Type 0
 AreFreshBut moves old new = All (λ (m : PlannedMove). is_stale new.core m.to ≡ true → Rose (old.device.counts.faults m.to.disk) (new.device.counts.faults m.to.disk)) moves

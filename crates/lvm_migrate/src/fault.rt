@@ -1,10 +1,10 @@
 //! Why copies don't move.
-ghost use Rattle.std.specs.Prelude.{◌≡◌};
-ghost use Rattle.lvm_migrate.specs.Faults.{IsOfOpening, commit_fault_is, opening_fault_is, plan_fault_is};
-
 use lvm_core::CommitFault;
 use lvm_move_plan::PlanFault;
 use lvm_session::OpenFault;
+
+ghost use Rattle.std.specs.Prelude.{◌≡◌};
+ghost use Rattle.lvm_migrate.specs.Faults.{IsOfOpening, commit_fault_is, opening_fault_is, plan_fault_is};
 
 /// Why copies don't move, or no more of them; those that have moved before stay moved. In this order at entry, where
 /// `Memory` may come before `Strict`.

@@ -3,8 +3,8 @@
 
 mod fault;
 pub mod laws;
-mod migrate;
+mod migrating;
 mod moving;
 
 pub use fault::MoveFault;
-pub use migrate::migrate;
+pub use migrating::migrate;

@@ -1,10 +1,14 @@
 //! One copy moves.
-ghost use Rattle.std.specs.Prelude.{◌≡◌, ◌≢◌, None, IfErr, IfOk};
+ghost use Rattle.std.specs.Prelude.{◌≡◌, ◌≢◌, None, Some, IfErr};
 ghost use Rattle.lvm_keeps_events.specs.Opening.{IsApart};
 ghost use Rattle.lvm_session.specs.declared.open.Power.TheVariants as power;
 ghost use Rattle.lvm_session.specs.State.{state_of};
 ghost use Rattle.lvm_going.specs.Going.{LeavesMoving};
-ghost use Rattle.lvm_migrate.specs.Migrating.{GoesBesideMoving, MoveCause};
+ghost use Rattle.lvm_migrate.specs.Migrating.{GoesBesideMoving, IsLeftShut, MoveCause};
+ghost use Rattle.lvm_migrate.specs.Committed.{GoesCommitting};
+ghost use Rattle.lvm_move_plan.specs.Laws.{after_move};
+ghost use Rattle.lvm_going.specs.Moves.{next_of};
+ghost use Rattle.lvm_num.specs.declared.descriptor.Descriptor.{Descriptor};
 ghost use Rattle.lvm_moved.specs.Moved.{MayStandOn};
 ghost use Rattle.lvm_migrate.specs.Moving.{Concludes, HasFailed, MayConclude, MayOpen, MovesOne, Opens, ended_fault};
 
@@ -17,7 +21,11 @@ use lvm_transfer::Patience;
 use std::alloc::Global;
 
 // The copy begins to move.
-fn open<S: Shelf>(driver: &mut Driver<S>, alloc: Global, one: PlannedMove) -> Result<(), MoveFault>
+fn open<S: Shelf>(
+    driver: &mut Driver<S>,
+    alloc: Global,
+    one: PlannedMove,
+) -> Result<(), MoveFault>
     requires unstuck { driver.old.1.power ≡ power.Stuck → ⊥ }
     requires apart { IsApart driver.old.1.descriptor one.copy.lv one.copy.lp one.copy.number one.to }
     requires may { MayOpen driver.old.1 one }
@@ -40,7 +48,8 @@ fn conclude<S: Shelf>(
 ) -> Result<(), MoveFault>
     requires may { MayConclude (state_of S.device driver.old) }
     ensures concludes { Concludes lp patience.old.left patience.new.left (state_of S.device driver.old) (state_of S.device driver.new) result }
-    ensures closed { driver.new.1.copy ≡ None }
+    ensures closed { IsLeftShut driver.new.1 result }
+    ensures way { GoesCommitting (λ (k : Descriptor). Some k ≡ next_of driver.old.1) (state_of S.device driver.old) (state_of S.device driver.new) }
     ensures beside { GoesBesideMoving (state_of S.device driver.old) (state_of S.device driver.new) patience.old.left patience.new.left }
 {
     driver.is_sound();
@@ -61,8 +70,10 @@ fn ended(how: CopyState, lp: u32) -> MoveFault
     match how {
         CopyState::SyncFailed { disk } => MoveFault::SyncFailed { disk },
         CopyState::NoFresh => MoveFault::NoFresh { lp },
-        CopyState::Closed | CopyState::Running { cursor: _ } | CopyState::Done | CopyState::Ended =>
-            unreachable!(),
+        CopyState::Closed
+        | CopyState::Running { cursor: _ }
+        | CopyState::Done
+        | CopyState::Ended => unreachable!(),
     }
 }
 
@@ -83,7 +94,8 @@ pub fn move_one<S: Shelf>(
     requires none { driver.old.1.copy ≡ None }
     requires stands { MayStandOn driver.old.1.descriptor one.copy.lv one.copy.lp one.copy.number one.to }
     ensures moves { MovesOne one patience.old.left patience.new.left (state_of S.device driver.old) (state_of S.device driver.new) result }
-    ensures closed { IfOk result (λ done. driver.new.1.copy ≡ None) }
+    ensures closed { IsLeftShut driver.new.1 result }
+    ensures way { GoesCommitting (λ (k : Descriptor). k ≡ after_move driver.old.1.descriptor one) (state_of S.device driver.old) (state_of S.device driver.new) }
     ensures stays { IfErr result (λ why. driver.new.1.descriptor ≡ driver.old.1.descriptor) }
     ensures caused { IfErr result (MoveCause patience.old.left (state_of S.device driver.old) (state_of S.device driver.new)) }
     ensures beside { GoesBesideMoving (state_of S.device driver.old) (state_of S.device driver.new) patience.old.left patience.new.left }

@@ -1,5 +1,6 @@
 use Rattle.std.proofs.Common.{ap, ◌∙◌}
 use Rattle.lvm_session.specs.State.{state_of}
+use Rattle.lvm_migrate.specs.Faults.{opening_fault_is}
 use Rattle.lvm_migrate.proofs.MovingLemmas.{of_opening, opens_not, opens_well}
 use Rattle.lvm_migrate.proofs.moving.open.Goals as goal
 
@@ -16,4 +17,4 @@ returns-in-Ok-clause-opens g c =
 pub returns-in-Err-clause-opens : goal.returns-in-Err-clause-opens
 returns-in-Err-clause-opens g c =
     let device = g.S.Shelf.device in
-    opens_not (state_of device c.args.driver.now) (state_of device c.open_move.new.self) c.args.one c.in-Err.why c.opening_fault.result c.requires.may (ap device c.open_move.ensures.shelf) c.in-Err.ensures.gives c.opening_fault.ensures
+    opens_not (state_of device c.args.driver.now) (state_of device c.open_move.new.self) c.args.one c.in-Err.why c.opening_fault.result c.requires.may (ap device c.open_move.ensures.shelf) c.in-Err.ensures.gives (c.opening_fault.ensures ∙ ap (opening_fault_is c.in-Err.why c.args.one.copy.lp) (λ t. (c.votes-off.ensures.have t, c.votes-off.ensures.total t)))

@@ -6,8 +6,8 @@ ghost use Rattle.lvm_session.specs.Judging.{is_missing};
 ghost use Rattle.lvm_session.specs.State.{state_of};
 ghost use Rattle.lvm_move_plan.specs.declared.plan.PlannedMove.{PlannedMove};
 ghost use Rattle.lvm_move_plan.specs.Planned.{planned_moves};
-ghost use Rattle.lvm_migrate.specs.Way.{IsLeftShut, MovesAsPlanned};
-ghost use Rattle.lvm_migrate.specs.Migrating.{AreFreshBut, ArePlanned, GoesBesideMoving, IsLeftEmpty, IsPlanOf, MayMigrate, MigrateGives, MoveCause, MovesAll, StandMoved, busy_or_missing, session_refusal};
+ghost use Rattle.lvm_migrate.specs.Committed.{MovesAsPlanned};
+ghost use Rattle.lvm_migrate.specs.Migrating.{AreFreshBut, ArePlanned, GoesBesideMoving, IsLeftEmpty, IsLeftShut, IsPlanOf, MayMigrate, MigrateGives, MoveCause, MovesAll, StandMoved, busy_or_missing, session_refusal};
 
 use crate::fault::MoveFault;
 use crate::moving::move_one;
@@ -92,7 +92,7 @@ fn move_all<S: Shelf>(
     moves: &[PlannedMove],
     patience: &mut Patience,
 ) -> Result<u32, MoveFault>
-    requires unstuck { driver.old.1.power ≡ power.Stuck → ⊥ }
+    requires on { driver.old.1.power ≡ power.On }
     requires epoch { driver.old.1.status.stamp.epoch ≢ 0 }
     requires none { driver.old.1.copy ≡ None }
     requires plan { IsPlanOf driver.old.1.descriptor moves.now }
@@ -101,9 +101,10 @@ fn move_all<S: Shelf>(
     ensures moves { MovesAll moves.now patience.old.left patience.new.left (state_of S.device driver.old) (state_of S.device driver.new) result }
     ensures stand { StandMoved moves.now driver.old.1.descriptor driver.new.1.descriptor result }
     ensures fresh { IfOk result (λ moved. AreFreshBut moves.now (state_of S.device driver.old) (state_of S.device driver.new)) }
-    ensures closed { IfOk result (λ moved. driver.new.1.copy ≡ None) }
+    ensures closed { IsLeftShut driver.new.1 result }
     ensures caused { IfErr result (MoveCause patience.old.left (state_of S.device driver.old) (state_of S.device driver.new)) }
     ensures beside { GoesBesideMoving (state_of S.device driver.old) (state_of S.device driver.new) patience.old.left patience.new.left }
+    ensures way { MovesAsPlanned moves.now (state_of S.device driver.old) (state_of S.device driver.new) }
 {
     for one in moves {
         driver.is_sound();
@@ -137,8 +138,8 @@ pub fn migrate<S: Shelf>(
     ensures fresh { IfOk result (λ moved. AreFreshBut (planned_moves driver.old.1.descriptor lv from to) (state_of S.device driver.old) (state_of S.device driver.new)) }
     ensures closed { driver.old.1.copy ≡ None → IsLeftShut driver.new.1 result }
     ensures caused { IfErr result (MoveCause patience.old.left (state_of S.device driver.old) (state_of S.device driver.new)) }
-    ensures way { MovesAsPlanned (planned_moves driver.old.1.descriptor lv from to) (state_of S.device driver.old) (state_of S.device driver.new) }
     ensures beside { GoesBesideMoving (state_of S.device driver.old) (state_of S.device driver.new) patience.old.left patience.new.left }
+    ensures way { MovesAsPlanned (planned_moves driver.old.1.descriptor lv from to) (state_of S.device driver.old) (state_of S.device driver.new) }
 {
     driver.is_sound();
     let moves = plan(driver, alloc, lv, from, to)?;
