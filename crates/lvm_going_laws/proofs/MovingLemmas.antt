@@ -9,7 +9,6 @@ use Rattle.lvm_disk.specs.Paths.{Here, Then}
 use Rattle.lvm_disk.proofs.CountingLemmas.{none_falls_at_once, none_falls_on}
 use Rattle.lvm_vol.specs.Facts.{Fact}
 use Rattle.lvm_vol.specs.Log.{Log}
-use Rattle.lvm_kept.specs.Group.{IsOneOf}
 use Rattle.lvm_kept.specs.Moments.{Moment}
 use Rattle.lvm_status.specs.Table.{has_row}
 use Rattle.lvm_status.proofs.MarkingLemmas.{has_row-same}
@@ -33,7 +32,7 @@ use Rattle.lvm_tie.proofs.GoingOnLemmas.Spanning.{goes_same, goes_then}
 use Rattle.lvm_tie.proofs.LawsLemmas.Calls.{calls_run_on}
 use Rattle.lvm_tie.proofs.LawsLemmas.Running.{keeps_power, origin_same, was_lit, was_on}
 use Rattle.lvm_going_laws.specs.Laws.{StaysGood}
-use Rattle.lvm_going_laws.specs.Moving.{CommitFindsNext, CommitMovesOn, FoundOn, GoingMovesOn, LeavesMoveOn, MovesFindTheirs, MovesOn, committed_on, next_on}
+use Rattle.lvm_going_laws.specs.Moving.{CommitFindsNext, CommitMovesOn, FoundOn, GoingMovesOn, LeavesMoveOn, MovesFindTheirs, MovesOn, IsNextOf}
 use Rattle.lvm_going_laws.proofs.GoingLemmas.{going_leaves}
 use Rattle.lvm_going_laws.proofs.StatusesLemmas.{is_stamped}
 
@@ -178,18 +177,9 @@ module _ (commits : CommitMovesOn) where
 
   -- ---- what is found
 
-  one_more : {X : Type 0} (xs ys : List X) (x : X) → IsOneOf xs x → IsOneOf (xs ++ ys) x
-  one_more [] ys x one = absurd one
-  one_more (y ∷ xs) ys x (inl here) = inl here
-  one_more (y ∷ xs) ys x (inr there) = inr (one_more xs ys x there)
-
-  one_behind : {X : Type 0} (xs ys : List X) (x : X) → IsOneOf ys x → IsOneOf (xs ++ ys) x
-  one_behind [] ys x one = one
-  one_behind (y ∷ xs) ys x one = inr (one_behind xs ys x one)
-
   module _ (finds : CommitFindsNext) where
     step_finds : (past : List Fact) (old new : State) (step : MovingStep old new) → IsSound old → LeavesDescriptors old.device → (old.core.power ≡ power.On → IsTied past old) → SparesDescriptors old
-        → (id : ℕ) (k : Descriptor) → FoundOn new.device id k → FoundOn old.device id k ⊎ ((id ≡ old.core.descriptor.id) × IsOneOf (next_on step) k)
+        → (id : ℕ) (k : Descriptor) → FoundOn new.device id k → FoundOn old.device id k ⊎ ((id ≡ old.core.descriptor.id) × IsNextOf step k)
     step_finds past old new (Leaves it) sound leaves tied spares id k found = inl (((going_leaves old new sound (Then (Here tt) it tt)).1.descriptors leaves).finds id k found.0 found.1 found.2)
     step_finds past old new (CommitsItsMove before after answer c drained epoch it) sound leaves tied spares id k found = finds past old new (CommitsItsMove before after answer c drained epoch it) tt (tied drained.on) spares id k found
     step_finds past old new (BeginsMove lv lp number to answer unstuck apart gives same) sound leaves tied spares id k found = inl (subst (λ (d : Device). FoundOn d id k) same found)
@@ -202,7 +192,7 @@ module _ (commits : CommitMovesOn) where
         ⊎_elim
         (λ before. ⊎_elim
         (λ first_found. inl first_found)
-        (λ on_way. inr (on_way.0, one_more (committed_on path) (next_on step) k on_way.1))
+        (λ on_way. inr (on_way.0, inl on_way.1))
         (finds_by_commits moment past first mid path sound leaves good begins spares id k before))
-        (λ next. inr (next.0 ∙ ap (λ (d : Descriptor). d.id) so_far.1.keeps.alike, one_behind (committed_on path) (next_on step) k next.1))
+        (λ next. inr (next.0 ∙ ap (λ (d : Descriptor). d.id) so_far.1.keeps.alike, inr next.1))
         (step_finds past mid last step so_far.0 descriptors.leaves (λ on. (so_far.1.good moment good).0 on past begins) (descriptors.spares spares) id k found)

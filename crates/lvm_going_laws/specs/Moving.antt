@@ -6,21 +6,41 @@ use Rattle.lvm_disk.specs.Device.{Device, Image, MayLeave}
 use Rattle.lvm_vol.specs.Facts.{Fact}
 use Rattle.lvm_vol.specs.Legal.{IsLater}
 use Rattle.lvm_kept.specs.Contents.{contents_of}
-use Rattle.lvm_kept.specs.Group.{IsAlike, IsFound, IsOneOf}
+use Rattle.lvm_kept.specs.Group.{IsAlike, IsFound}
 use Rattle.lvm_kept.specs.Moments.{Moment}
 use Rattle.lvm_status.specs.Table.{has_row}
 use Rattle.lvm_steps.specs.Moments.{RunBegins}
 use Rattle.lvm_session.specs.declared.open.Power.TheVariants as power
 use Rattle.lvm_session.specs.Sound.{IsSound}
 use Rattle.lvm_session.specs.State.{Core, State}
-pub use Rattle.lvm_going.specs.Committed.{IsCommit, committed_on, next_on}
-pub use Rattle.lvm_going.specs.Going.{LeavesMoving, LeavesSession, MovingStep}
+use Rattle.lvm_disk.specs.Paths.{Here, Then}
+use Rattle.lvm_going.specs.Going.{CommitsItsMove, MovingStep}
+pub use Rattle.lvm_going.specs.Going.{LeavesMoving, LeavesSession}
 use Rattle.lvm_tie.specs.GoingOn.{SessionGoesOn}
 use Rattle.lvm_tie.specs.Landings.{HasCausesSince}
 use Rattle.lvm_tie.specs.Running.{GoesOffByCut, GoesOnOrEnds, IsBefore, KeepsOrigin}
 use Rattle.lvm_tie.specs.Spares.{LeavesDescriptors, SparesDescriptors}
 use Rattle.lvm_tie.specs.Stamps.{KeepsEpoch}
 use Rattle.lvm_tie.specs.Tied.{IsGood, IsTied}
+
+-- ---- commits
+
+-- a move was committed in the step
+abbrev pub IsCommit : {old new : State} → MovingStep old new → Type 0
+IsCommit (CommitsItsMove before after answer c drained epoch commits) = Unit {0}
+IsCommit other = ⊥
+
+-- this descriptor was being committed in it, whatever was answered,
+abbrev pub IsNextOf : {old new : State} → MovingStep old new → Descriptor → Type 0
+IsNextOf (CommitsItsMove before after answer c drained epoch commits) k = k ≡ commits.next
+IsNextOf other k = ⊥
+
+-- and in a step of the way
+abbrev pub IsCommittedOn : {first last : State} → LeavesMoving first last → Descriptor → Type 0
+IsCommittedOn (Here any) k = ⊥
+IsCommittedOn (Then path step any) k = IsCommittedOn path k ⊎ IsNextOf step k
+
+-- ---- what stays
 
 -- It is of the run and the rooms that it was given, on disks as large, whose counts never fall and whose power goes off by a cut alone; of the same group, in which
 -- copies may stand elsewhere; and it goes on, is over, or isn't heard of.
@@ -72,10 +92,10 @@ FoundOn device id k = (image : Image) × MayLeave device image × IsFound (conte
 -- A commit of a tied session leaves found what was found before, or the descriptor that was to be committed.
 abbrev pub CommitFindsNext : Type 0
 CommitFindsNext = (past : List Fact) (old new : State) (step : MovingStep old new) → IsCommit step → IsTied past old → SparesDescriptors old
-    → (id : ℕ) (k : Descriptor) → FoundOn new.device id k → FoundOn old.device id k ⊎ ((id ≡ old.core.descriptor.id) × IsOneOf (next_on step) k)
+    → (id : ℕ) (k : Descriptor) → FoundOn new.device id k → FoundOn old.device id k ⊎ ((id ≡ old.core.descriptor.id) × IsNextOf step k)
 
 -- So the way of a good session leaves found what was found before, or one that was being committed on it.
 abbrev pub MovesFindTheirs : Type 0
 MovesFindTheirs = (moment : Moment) (past : List Fact) (first last : State) (leaves : LeavesMoving first last) → IsSound first → LeavesDescriptors first.device → IsGood first.core.history.run moment first
     → RunBegins first.core.history.run past moment → SparesDescriptors first
-    → (id : ℕ) (k : Descriptor) → FoundOn last.device id k → FoundOn first.device id k ⊎ ((id ≡ first.core.descriptor.id) × IsOneOf (committed_on leaves) k)
+    → (id : ℕ) (k : Descriptor) → FoundOn last.device id k → FoundOn first.device id k ⊎ ((id ≡ first.core.descriptor.id) × IsCommittedOn leaves k)

@@ -13,8 +13,7 @@ use Rattle.lvm_session.specs.Sound.{IsSound, is_dark}
 use Rattle.lvm_session.specs.State.{Core, State, state_of}
 use Rattle.lvm_migrate.specs.declared.fault.MoveFault.{MoveFault}
 use Rattle.lvm_migrate.specs.declared.fault.MoveFault.TheVariants as fault
-use Rattle.lvm_migrate.specs.Migrating.{GoesBesideMoving}
-use Rattle.lvm_migrate.specs.Way.{IsLeftShut}
+use Rattle.lvm_migrate.specs.Migrating.{GoesBesideMoving, IsLeftShut}
 use Rattle.lvm_range_lines.specs.Leaving.{FailsIf, serving}
 use Rattle.lvm_range_lines.specs.passed.Names.{Post}
 use Rattle.lvm_range_lines.specs.passed.HolderVariants as holder

@@ -9,7 +9,7 @@ use Rattle.lvm_move_plan.specs.Planned.{planned_moves}
 use Rattle.lvm_migrate.specs.declared.fault.MoveFault.{MoveFault}
 use Rattle.lvm_migrate.specs.declared.fault.MoveFault.TheVariants as fault
 use Rattle.lvm_migrate.specs.Migrating.{GoesBesideMoving, IsLeftEmpty, MigrateGives, MoveCause, StandMoved}
-use Rattle.lvm_migrate.specs.Way.{MovesAsPlanned}
+use Rattle.lvm_migrate.specs.Committed.{MovesAsPlanned}
 use Rattle.lvm_range_lines.specs.Leaving.{FailsIf, session_over}
 use Rattle.lvm_range_lines.specs.passed.GroupLines.{IsRefused, Refusal, Reply, ScriptState, is_unheard, patience_of_line}
 use Rattle.lvm_range_lines.specs.passed.RefusalVariants as refusal

@@ -1,7 +1,6 @@
 -- What is found after copies were to move: what was found before, or what was to be committed.
 use Rattle.std.proofs.Common.{◌≡◌, ◌≢◌, ◌⊎◌, inl, inr, ⊎_elim, ℕ, suc, [], ◌∷◌, ◌++◌, List, Bool, true, false, Option, Some, None, IfSome, Result, Ok, Err, refl, sym, ap, subst, ◌∙◌}
 use Rattle.std.specs.Prelude.{IsSomeAnd}
-use Rattle.std.specs.List.{AllByRecursion}
 use Rattle.lvm_num.specs.Among.{IsOneOf}
 use Rattle.lvm_num.specs.declared.descriptor.Descriptor.{Descriptor}
 use Rattle.lvm_num.specs.declared.descriptor.LvRow.{LvRow}
@@ -15,7 +14,8 @@ use Rattle.lvm_session.specs.declared.open.Power.{Power}
 use Rattle.lvm_session.specs.declared.open.Power.TheVariants as power
 use Rattle.lvm_session.specs.Sound.{IsSound}
 use Rattle.lvm_session.specs.State.{Core, State, state}
-use Rattle.lvm_line.specs.passed.Tie.{IsGood, IsTied, MovesOn, committed_on}
+use Rattle.lvm_line.specs.passed.Tie.{IsGood, IsTied, MovesOn}
+use Rattle.lvm_line.proofs.passed.MoveLines.{is_planned}
 use Rattle.lvm_line.proofs.passed.Tie.{going_moves_on, moves_find_theirs}
 use Rattle.lvm_line.specs.passed.TieCommands.{StandsAfter}
 use Rattle.lvm_line.specs.passed.GroupLines.{IsBetween, IsOnBetween, OfRequests, Reply, ScriptState, StandsAlone, is_unheard}
@@ -52,11 +52,6 @@ stage_of d (m ∷ plan) k it = ⊎_elim
     let on = stage_of (after_move d m) plan k there in
     record { first = m; moved = on.first ∷ on.moved; rest = on.rest; all = ap (λ (moves : List PlannedMove). m ∷ moves) on.all; is = on.is })
     it
-
--- what holds of each holds of one
-all_of : {X : Type 0} {P : X → Type 0} (xs : List X) → AllByRecursion P xs → (x : X) → IsOneOf xs x → P x
-all_of [] all x one = absurd one
-all_of {P = P} (y ∷ xs) all x one = ⊎_elim (λ (here : x ≡ y). subst P (sym here) all.0) (λ there. all_of xs all.1 x there) one
 
 module _ (run : ℕ) (old new : ScriptState) (between : IsBetween old.moment old.session old.posts) (named : IfSome old.session (λ core. core.history.run ≡ run)) (may : StandsForMoves run OfRequests old new) where
   of_session : (P : Core → Type 0) (core : Core) → old.session ≡ Some core → IfSome old.session P → P core
@@ -130,14 +125,11 @@ module _ (run : ℕ) (old new : ScriptState) (between : IsBetween old.moment old
         pub end_id : end.core.descriptor.id ≡ core.descriptor.id
         end_id = ap (λ (d : Descriptor). d.id) moves.keeps.alike
 
-        planned_at : (k : Descriptor) → IsOneOf (committed_on its.way.leaves) k → IsOneOf (stages core.descriptor (planned_moves core.descriptor lv from to)) k
-        planned_at k one = all_of (committed_on its.way.leaves) its.way.planned k one
-
         pub migrated_finds : (volume : Option (List ℕ)) → IsAsked core.descriptor volume from to lv → (id : ℕ) (k : Descriptor) → MayBeFound new.moment.device id k → MayBeFound old.moment.device id k ⊎ MayHaveCommitted (Ok (Some (command.Migratepv volume from to))) answer old new id k
         migrated_finds volume asked id k it = ⊎_elim
             (λ before. inl before)
             (λ committed.
-            let stage = stage_of core.descriptor (planned_moves core.descriptor lv from to) k (planned_at k committed.1) in
+            let stage = stage_of core.descriptor (planned_moves core.descriptor lv from to) k (is_planned (planned_moves core.descriptor lv from to) first_session end its.way k committed.1) in
             let some_moved : HasMovedSome core.descriptor lv from to k = record { first = stage.first; moved = stage.moved; rest = stage.rest; all = stage.all; is = stage.is } in
             inr (record {
               tried = tt;
