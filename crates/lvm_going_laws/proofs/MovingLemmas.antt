@@ -9,10 +9,8 @@ use Rattle.lvm_disk.specs.Paths.{Here, Then}
 use Rattle.lvm_disk.proofs.CountingLemmas.{none_falls_at_once, none_falls_on}
 use Rattle.lvm_vol.specs.Facts.{Fact}
 use Rattle.lvm_vol.specs.Log.{Log}
-use Rattle.lvm_kept.specs.Moments.{Moment}
 use Rattle.lvm_status.specs.Table.{has_row}
 use Rattle.lvm_status.proofs.MarkingLemmas.{has_row-same}
-use Rattle.lvm_steps.specs.Moments.{RunBegins}
 use Rattle.lvm_session.specs.declared.open.Power.TheVariants as power
 use Rattle.lvm_session.specs.declared.origin.Origin.{Origin}
 use Rattle.lvm_session.specs.declared.answers.OpenFault.{OpenFault}
@@ -20,14 +18,14 @@ use Rattle.lvm_session.specs.declared.answers.OpenFault.TheVariants as denial
 use Rattle.lvm_session.specs.Calls.{OpenMoveGives, OpensMove, move_fault}
 use Rattle.lvm_session.specs.Sound.{IsSound}
 use Rattle.lvm_session.specs.State.{Core, State, state}
-use Rattle.lvm_going.specs.Going.{BeginsMove, CommitsItsMove, Leaves, LeavesMoving, LeavesSession, MovingStep}
+use Rattle.lvm_going.specs.Going.{BeginsMove, CommitsItsMove, Leaves, MovingStep}
 use Rattle.lvm_going.specs.Statuses.{IsStamped}
 use Rattle.lvm_going.proofs.GoingLemmas.{moving_keeps, path_shape}
 use Rattle.lvm_going.proofs.ShelvesLemmas.{cut_both}
 use Rattle.lvm_tie.specs.GoingOn.{SessionGoesOn}
 use Rattle.lvm_tie.specs.Running.{GoesOnOrEnds, KeepsOrigin}
 use Rattle.lvm_tie.specs.Spares.{LeavesDescriptors, SparesDescriptors}
-use Rattle.lvm_tie.specs.Tied.{IsGood, IsTied}
+use Rattle.lvm_tie.specs.Tied.{IsTied}
 use Rattle.lvm_tie.proofs.GoingOnLemmas.Spanning.{goes_same, goes_then}
 use Rattle.lvm_tie.proofs.LawsLemmas.Calls.{calls_run_on}
 use Rattle.lvm_tie.proofs.LawsLemmas.Running.{keeps_power, origin_same, was_lit, was_on}

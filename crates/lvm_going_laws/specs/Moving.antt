@@ -12,7 +12,7 @@ use Rattle.lvm_status.specs.Table.{has_row}
 use Rattle.lvm_steps.specs.Moments.{RunBegins}
 use Rattle.lvm_session.specs.declared.open.Power.TheVariants as power
 use Rattle.lvm_session.specs.Sound.{IsSound}
-use Rattle.lvm_session.specs.State.{Core, State}
+use Rattle.lvm_session.specs.State.{State}
 use Rattle.lvm_disk.specs.Paths.{Here, Then}
 use Rattle.lvm_going.specs.Going.{CommitsItsMove, MovingStep}
 pub use Rattle.lvm_going.specs.Going.{LeavesMoving, LeavesSession}

@@ -1,7 +1,6 @@
 -- What stays of a session over a way on which copies move.
 use Rattle.std.proofs.Common.{◌≡◌, ◌⊎◌, inl, inr, ℕ, Bool, true, false, List, [], Option, Some, None, refl, sym, ◌∙◌, ap, subst}
 use Rattle.std.specs.Prelude.{Err, MatchOption, Ok, Result}
-use Rattle.lvm_num.specs.Buffer.{Buffer}
 use Rattle.lvm_num.specs.declared.descriptor.Descriptor.{Descriptor}
 use Rattle.lvm_num.specs.declared.place.Pp.{Pp}
 use Rattle.lvm_disk.specs.declared.shelf.Arrange.{Arrange}
@@ -12,7 +11,6 @@ use Rattle.lvm_disk.specs.Paths.{Arranged, Broke, DeviceStep, Ended, Freed, Here
 use Rattle.lvm_disk.specs.Steps.{Arranges}
 use Rattle.lvm_disk.proofs.CountingLemmas.{none_falls_at_once, none_falls_on}
 use Rattle.lvm_disk.proofs.StepsLemmas.{step_counts}
-use Rattle.lvm_vol.specs.Facts.{Fact}
 use Rattle.lvm_vol.specs.Log.{Log}
 use Rattle.lvm_commit.specs.declared.commit.CommitEnd.{CommitEnd}
 use Rattle.lvm_commit.specs.declared.commit.CommitEnd.TheVariants as commit_end
@@ -26,7 +24,7 @@ use Rattle.lvm_session.specs.declared.open.Power.TheVariants as power
 use Rattle.lvm_session.specs.declared.open.Power.{Power}
 use Rattle.lvm_session.specs.declared.origin.Origin.{Origin}
 use Rattle.lvm_session.specs.Calls.{OpenMoveGives, OpensMove, closed, move_fault}
-use Rattle.lvm_session.specs.State.{Core, State, state}
+use Rattle.lvm_session.specs.State.{Core, State}
 use Rattle.lvm_going.specs.Frames.{GoesOffByCut, GoesOnOrEnds, KeepsShape}
 use Rattle.lvm_going.specs.Going.{BeginsMove, CommitsItsMove, CommitsOpenMove, Leaves, MovingStep, closed_after}
 use Rattle.lvm_load.specs.MovingFrames.{KeepsMovingFrame, MovesFrame}

@@ -14,10 +14,10 @@ use Rattle.lvm_session.specs.Causes.{AnyFailedSince}
 use Rattle.lvm_session.specs.Sound.{IsSound}
 use Rattle.lvm_session.specs.State.{State}
 use Rattle.lvm_keeps.proofs.KeepsLemmas.Losing.{loss_is_caused}
-use Rattle.lvm_going.specs.Going.{BeginsMove, CommitsItsMove, IsAny, Leaves, LeavesMoving, MovingStep}
+use Rattle.lvm_going.specs.Going.{BeginsMove, CommitsItsMove, Leaves, LeavesMoving, MovingStep}
 use Rattle.lvm_going.specs.Frames.{GoesOnOrEnds}
 use Rattle.lvm_load.specs.MovingFrames.{KeepsMovingFrame, MovesFrame}
-use Rattle.lvm_going.proofs.GoingLemmas.{moving_keeps, moving_path_keeps}
+use Rattle.lvm_going.proofs.GoingLemmas.{moves_keep, moving_keeps}
 use Rattle.lvm_load.proofs.MovingFramesLemmas.{begin_leaves, commit_frame, moves_frame, moving_frame}
 use Rattle.lvm_load.specs.Landing.{EntersWell, IsEnteredWell}
 use Rattle.lvm_load.specs.MovingLanding.{EntersOnWay, IsEnteredOnWay, RequestsLandOnWay}
@@ -73,7 +73,7 @@ requests_land_on_way first last sound (Then {m = mid} path step any) none lit =
     let frame = moving_frame mid last step in
     let none_mid : AnyFailedSince mid → ⊥ = λ failed. none (failed_on mid last frame failed) in
     let lit_mid : mid.core.power ≡ power.Dark → ⊥ = λ dark. lit (dark_on mid last frame dark) in
-    enters_on first mid last path (requests_land_on_way first mid sound path none_mid lit_mid) (one_enters mid last (moving_path_keeps sound path) none lit step)
+    enters_on first mid last path (requests_land_on_way first mid sound path none_mid lit_mid) (one_enters mid last (moves_keep first mid sound path) none lit step)
 
 -- what stays of a session over its way
 pub frame_later : MovesFrame

@@ -4,7 +4,6 @@ use Rattle.std.specs.Prelude.{IsSome}
 use Rattle.lvm_num.specs.declared.descriptor.Descriptor.{Descriptor}
 use Rattle.lvm_num.specs.declared.descriptor.LvRow.{LvRow}
 use Rattle.lvm_num.specs.Descriptor.{is_member, volume_of}
-use Rattle.lvm_core.specs.Looking.{IsNumberOf}
 use Rattle.lvm_migrate.specs.Migrating.{MayMigrate}
 use Rattle.lvm_range_lines.proofs.passed.GroupLines.{there}
 use Rattle.lvm_move_lines.specs.Asking.{IsAsked, IsNamed, first_outside}

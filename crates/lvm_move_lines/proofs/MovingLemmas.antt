@@ -10,7 +10,7 @@ use Rattle.lvm_session.specs.declared.open.Power.TheVariants as power
 use Rattle.lvm_session.specs.Calls.{has_numbers}
 use Rattle.lvm_session.specs.Causes.{is_over}
 use Rattle.lvm_session.specs.Sound.{IsSound, is_dark}
-use Rattle.lvm_session.specs.State.{Core, State, state_of}
+use Rattle.lvm_session.specs.State.{Core, state_of}
 use Rattle.lvm_migrate.specs.declared.fault.MoveFault.{MoveFault}
 use Rattle.lvm_migrate.specs.declared.fault.MoveFault.TheVariants as fault
 use Rattle.lvm_migrate.specs.Migrating.{GoesBesideMoving, IsLeftShut}

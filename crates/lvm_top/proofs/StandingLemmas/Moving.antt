@@ -4,9 +4,7 @@ use Rattle.std.specs.Prelude.{IsSomeAnd}
 use Rattle.lvm_num.specs.Among.{IsOneOf}
 use Rattle.lvm_num.specs.declared.descriptor.Descriptor.{Descriptor}
 use Rattle.lvm_num.specs.declared.descriptor.LvRow.{LvRow}
-use Rattle.lvm_disk.specs.Device.{Device}
 use Rattle.lvm_vol.specs.Facts.{Fact}
-use Rattle.lvm_kept.specs.Moments.{Moment}
 use Rattle.lvm_parse.specs.declared.command.Command.TheVariants as command
 use Rattle.lvm_steps.specs.Moments.{RunBegins}
 use Rattle.lvm_core.specs.Leaves.{MayBeFound}
@@ -14,7 +12,7 @@ use Rattle.lvm_session.specs.declared.open.Power.{Power}
 use Rattle.lvm_session.specs.declared.open.Power.TheVariants as power
 use Rattle.lvm_session.specs.Sound.{IsSound}
 use Rattle.lvm_session.specs.State.{Core, State, state}
-use Rattle.lvm_line.specs.passed.Tie.{IsGood, IsTied, MovesOn}
+use Rattle.lvm_line.specs.passed.Tie.{IsGood, MovesOn}
 use Rattle.lvm_line.proofs.passed.MoveLines.{is_planned}
 use Rattle.lvm_line.proofs.passed.Tie.{going_moves_on, moves_find_theirs}
 use Rattle.lvm_line.specs.passed.TieCommands.{StandsAfter}
@@ -22,7 +20,7 @@ use Rattle.lvm_line.specs.passed.GroupLines.{IsBetween, IsOnBetween, OfRequests,
 use Rattle.lvm_line.specs.passed.RangeLines.{CarriesBy, FailsIf}
 use Rattle.lvm_line.specs.passed.MoveLines.{IsAsked, IsMigrated, MigratepvDoes, MovesCopies, NoGroupForMoves, NotAskedForMoves, NothingMoves, PlannedMove, after_move, after_moves, planned_moves, stages}
 use Rattle.lvm_top.specs.Standing.{HasMovedSome, MayHaveCommitted, StandsForMoves}
-use Rattle.lvm_top.proofs.Devices.{NothingNew, then_nothing, same_nothing}
+use Rattle.lvm_top.proofs.Devices.{NothingNew, same_nothing}
 use Rattle.lvm_top.proofs.LeavesLemmas.Quiet.{closed_nothing}
 use Rattle.lvm_top.proofs.StandingLemmas.Tied.{held_only, tied_found, tied_only}
 

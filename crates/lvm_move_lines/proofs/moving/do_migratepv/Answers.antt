@@ -2,7 +2,7 @@ use Rattle.std.proofs.Common.{◌≤◌, false, refl, sym, ◌∙◌, ap, subst}
 use Rattle.lvm_range_lines.specs.passed.HolderVariants as holder
 use Rattle.lvm_range_lines.specs.passed.RefusalVariants as refusal
 use Rattle.lvm_range_lines.specs.passed.ReplyVariants as reply
-use Rattle.lvm_range_lines.specs.passed.GroupLines.{ComesTo, Holder, IsOfKind, session_of}
+use Rattle.lvm_range_lines.specs.passed.GroupLines.{ComesTo, Holder, session_of}
 use Rattle.lvm_range_lines.proofs.EndsLemmas.{between_now, ends_with, fits_now, refused_as}
 use Rattle.lvm_move_lines.specs.Moving.{MigratepvDoes, NoGroupForMoves}
 use Rattle.lvm_move_lines.proofs.EmptyLemmas.{empty_ends}

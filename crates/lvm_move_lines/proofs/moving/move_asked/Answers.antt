@@ -2,7 +2,7 @@ use Rattle.std.proofs.Common.{◌≡◌, ◌≤◌, ℕ, refl, sym, subst, ◌�
 use Rattle.lvm_session.specs.declared.open.Power.TheVariants as power
 use Rattle.lvm_session.specs.State.{state_of}
 use Rattle.lvm_migrate.specs.Migrating.{GoesBesideMoving, MigrateGives}
-use Rattle.lvm_range_lines.specs.passed.GroupLines.{Reply, is_unheard, most_refusals, patience_of_line}
+use Rattle.lvm_range_lines.specs.passed.GroupLines.{Reply, is_unheard, most_refusals}
 use Rattle.lvm_range_lines.proofs.LeavingLemmas.Posting.{table_posts}
 use Rattle.lvm_move_lines.specs.Moving.{MigratepvDoes, MovesCopies}
 use Rattle.lvm_move_lines.proofs.AskingLemmas.{may_migrate}
