@@ -23,7 +23,7 @@ use Rattle.lvm_vol.specs.Facts.{Fact}
 use Rattle.lvm_kept.specs.Contents.{contents_of}
 use Rattle.lvm_kept.specs.Plans.{Plan}
 use Rattle.lvm_kept.specs.Torn.{RecordWrite, IsOfRecord}
-use Rattle.lvm_kept.specs.Group.{IsOneOf}
+use Rattle.lvm_kept.specs.Group.{IsOneOf, is_of, passes}
 use Rattle.lvm_status.specs.passed.Names.{SameMissing, IsLeftIn}
 use Rattle.lvm_status.specs.Members.{HasItsRows}
 pub use Rattle.lvm_status.specs.Members.{HasSameRows}
@@ -245,15 +245,21 @@ CommitFindsNoMore content first homes old new =
 abbrev pub OthersAreLeft : ℕ → Device → Device → Type 0
 OthersAreLeft id old new = BothTold old.media new.media (λ was is. LeavesOthers (contents_of (image_of old.sizes was)) (contents_of (image_of new.sizes is)) id)
 
+-- each disk that showed a descriptor of the group shows one still, also one that was lost, where the media is told
+abbrev pub MembersAreLeft : ℕ → Device → Device → Type 0
+MembersAreLeft id old new =
+    BothTold old.media new.media (λ was is. (d : ℕ) → passes (is_of id) ((contents_of (image_of old.sizes was)).descriptor d) ≡ true → passes (is_of id) ((contents_of (image_of new.sizes is)).descriptor d) ≡ true)
+
 -- Where the disks held what was committed, they hold what now is, and other groups are left as they were: of the same group,
 abbrev pub StaysHeld : Stored → Stored → Homes → Homes → Device → Device → Type 0
 StaysHeld first last homes_old homes_new old new =
     (group : Descriptor) → IsOf group first → SessionIsHeld old group first homes_old → SessionIsHeld new group last homes_new × OthersAreLeft group.id old new
 
--- or of the next one, which differs from it in its volumes alone.
+-- or of the next one, which differs from it in its volumes alone; then the members are left too.
 abbrev pub ComesHeld : List ℕ → Stored → Stored → Homes → Homes → Device → Device → Type 0
 ComesHeld content first last homes_old homes_new old new =
-    (group next : Descriptor) → descriptor_of content ≡ Ok next → IsOf group first → IsAlike next group → SessionIsHeld old group first homes_old → SessionIsHeld new next last homes_new × OthersAreLeft group.id old new
+    (group next : Descriptor) → descriptor_of content ≡ Ok next → IsOf group first → IsAlike next group → SessionIsHeld old group first homes_old
+    → SessionIsHeld new next last homes_new × OthersAreLeft group.id old new × MembersAreLeft group.id old new
 
 -- ---- what is committed
 

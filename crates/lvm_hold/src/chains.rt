@@ -1,11 +1,12 @@
 //! Rows in chains. Two that conflict ask for blocks of one track group and so stand in one chain, in order of
 //! ids: whom one waits for is found without a look at the rows of other chains.
-ghost use Rattle.std.specs.Prelude.{◌≡◌, ◌<◌, ◌+◌, nat_lt, IfSome, Some, true, length, vec_len, vec_capacity};
+ghost use Rattle.std.specs.Prelude.{◌≡◌, ◌<◌, ◌+◌, nat_lt, IfSome, Some, true, length, vec_len};
 ghost use Rattle.lvm_hold.specs.Conflicts.{conflicts, have_common_block, is_write, IsInGroup};
 ghost use Rattle.lvm_hold.specs.Order.{IsAscending, first_conflict};
 ghost use Rattle.lvm_hold.specs.Chains.{IsChained, head_of, first_of, last_of, place_in, put_next, put_head};
 
 use crate::queue::{Held, Row};
+use crate::tail::Tail;
 
 /// How many chains there are.
 pub const HEADS: usize = 2048;
@@ -65,20 +66,18 @@ pub fn last_of(rows: &[Row], head: usize) -> Option<usize>
 /// Links a row, or none, behind the one at a place, or behind the head where there is none.
 pub fn link(
     heads: &mut Vec<Option<u64>>,
-    nexts: &mut Vec<Option<u64>>,
+    nexts: &mut Tail<Option<u64>>,
     before: Option<usize>,
     head: usize,
     to: Option<u64>,
 )
-    requires within { IfSome before (λ place. place < vec_len nexts.old) }
+    requires within { IfSome before (λ place. place < length nexts.old.items) }
     requires head { head < vec_len heads.old }
-    ensures nexts { nexts.new.items ≡ put_next before to nexts.old.items }
+    ensures nexts { nexts.new ≡ record nexts.old { items = put_next before to nexts.old.items } }
     ensures heads { heads.new.items ≡ put_head before head to heads.old.items }
-    ensures len { vec_len nexts.new ≡ vec_len nexts.old }
-    ensures capacity { vec_capacity nexts.new ≡ vec_capacity nexts.old }
 {
     match before {
-        Some(place) => nexts[place] = to,
+        Some(place) => nexts.set(place, to),
         None => heads[head] = to,
     }
 }

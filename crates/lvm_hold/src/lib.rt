@@ -3,5 +3,6 @@
 
 mod chains;
 mod queue;
+mod tail;
 
 pub use queue::{Held, Queue, Row};

@@ -1,8 +1,9 @@
 //! What was asked for and has not landed, in order of ids.
-ghost use Rattle.std.specs.Prelude.{◌≡◌, ◌<◌, ◌≤◌, ◌+◌, ◌++◌, [], ◌∷◌, ◌↔◌, ℕ, length, None, IsTrue, IfOk, IfSome, IsSomeAnd, vec_len, vec_capacity, replicate, take};
+ghost use Rattle.std.specs.Prelude.{◌≡◌, ◌<◌, ◌≤◌, ◌+◌, ◌++◌, [], ◌∷◌, ◌↔◌, ℕ, length, None, IsTrue, IfOk, IfSome, IsSomeAnd, take};
 ghost use Rattle.lvm_hold.specs.Conflicts.{IsInGroup};
 
 use crate::chains::{HEADS, first_in_chain, head_of, last_of, link, place_of};
+use crate::tail::Tail;
 use lvm_num::Memory;
 use std::alloc::Global;
 use std::marker::Model;
@@ -31,15 +32,15 @@ pub struct Row {
 #[derive(Drop)]
 pub struct Queue {
     room: u32,
-    rows: Vec<Row>,
+    rows: Tail<Row>,
     // Of each row the next one of its chain, by its id.
-    nexts: Vec<Option<u64>>,
+    nexts: Tail<Option<u64>>,
     // Of each chain the first row.
     heads: Vec<Option<u64>>,
 }
 
 impl Model for Queue {
-    ghost use Rattle.std.specs.Prelude.{◌≤◌, vec_capacity};
+    ghost use Rattle.std.specs.Prelude.{◌≡◌};
     ghost use Rattle.lvm_hold.specs.Waiting.{Waiting};
     ghost use Rattle.lvm_hold.specs.Chains.{IsChained};
 
@@ -47,7 +48,7 @@ impl Model for Queue {
 
     ghost view = { λ q. record { room = q.room; rows = q.rows.items } };
 
-    ghost invariant = { λ q. (q.room ≤ vec_capacity q.rows) × (q.room ≤ vec_capacity q.nexts) × IsChained q.rows.items q.nexts.items q.heads.items };
+    ghost invariant = { λ q. (q.rows.room ≡ q.room) × (q.nexts.room ≡ q.room) × IsChained q.rows.items q.nexts.items q.heads.items };
 }
 
 impl Queue {
@@ -60,8 +61,8 @@ impl Queue {
     {
         let mut heads = Vec::new(alloc);
         let (Ok(rows), Ok(nexts), Ok(())) = (
-            Vec::with_capacity(alloc, room as usize),
-            Vec::with_capacity(alloc, room as usize),
+            Tail::new(alloc, room),
+            Tail::new(alloc, room),
             heads.resize(HEADS, None),
         ) else {
             return Err(Memory);
@@ -84,8 +85,8 @@ impl Queue {
         let head = head_of(&ask);
         let before = self.last_in(head);
         link(&mut self.heads, &mut self.nexts, before, head, Some(id));
-        append(&mut self.rows, Row { id, ask });
-        append(&mut self.nexts, None);
+        self.rows.push(Row { id, ask });
+        self.nexts.push(None);
     }
 
     /// One that is inside leaves.
@@ -93,10 +94,11 @@ impl Queue {
         requires { IsInside self.old.rows id }
         ensures { self.new ≡ record self.old { rows = without id self.old.rows } }
     {
-        if let Some(place) = place_of(&self.rows, id) {
-            let head = head_of(&self.rows[place].ask);
+        if let Some(place) = place_of(self.rows.as_slice(), id) {
+            let row = self.rows.at(place);
+            let head = head_of(&row.ask);
             let before = self.last_before(place, head);
-            let next = self.nexts[place];
+            let next = self.nexts.at(place);
             link(&mut self.heads, &mut self.nexts, before, head, next);
             self.rows.remove(place);
             self.nexts.remove(place);
@@ -111,7 +113,7 @@ impl Queue {
     {
         match self.heads[head] {
             None => None,
-            Some(_) => last_of(&self.rows, head),
+            Some(_) => last_of(self.rows.as_slice(), head),
         }
     }
 
@@ -123,8 +125,8 @@ impl Queue {
         ensures within { IfSome result (λ before. before < place) }
     {
         match self.heads[head] {
-            Some(first) if first == self.rows[place].id => None,
-            _ => last_of(&self.rows[..place], head),
+            Some(first) if first == self.rows.at(place).id => None,
+            _ => last_of(&self.rows.as_slice()[..place], head),
         }
     }
 
@@ -132,7 +134,7 @@ impl Queue {
     pub fn has(&self, id: u64) -> bool
         ensures { IsTrue result ↔ IsInside self.now.rows id }
     {
-        place_of(&self.rows, id).is_some()
+        place_of(self.rows.as_slice(), id).is_some()
     }
 
     /// The least earlier id that one which is inside waits for.
@@ -141,19 +143,9 @@ impl Queue {
         ensures blocks { IfSome result (λ earlier. Blocks self.now.rows earlier id) }
         ensures least { (earlier : ℕ) → Blocks self.now.rows earlier id → IsSomeAnd result (λ least. least ≤ earlier) }
     {
-        let place = place_of(&self.rows, id)?;
-        first_in_chain(&self.rows, &self.nexts, &self.heads, &self.rows[place])
-    }
-}
-
-// Adds an item to items that have room.
-fn append<T>(items: &mut Vec<T>, item: T)
-    requires { vec_len items.old < vec_capacity items.old }
-    ensures items { items.new.items ≡ items.old.items ++ item ∷ [] }
-    ensures capacity { vec_capacity items.old ≤ vec_capacity items.new }
-{
-    match items.push(item) {
-        Ok(()) => {}
-        Err(_) => unreachable!(),
+        let rows = self.rows.as_slice();
+        let place = place_of(rows, id)?;
+        let this = self.rows.at(place);
+        first_in_chain(rows, self.nexts.as_slice(), &self.heads, &this)
     }
 }

@@ -1,5 +1,5 @@
 -- The commit of a session's next descriptor: its record, and then the status of those that it lost.
-use Rattle.std.proofs.Common.{◌≡◌, ◌⊎◌, inl, inr, ⊎_elim, ℕ, ◌+◌, ◌<◌, ◌≤◌, Bool, true, false, not, ◌&&◌, List, IfSome, Ok, IsTrue, IsFalse, refl, sym, ◌∙◌, ap, subst, arith}
+use Rattle.std.proofs.Common.{◌≡◌, ◌⊎◌, inl, inr, ⊎_elim, ℕ, ◌+◌, ◌<◌, ◌≤◌, Bool, true, false, not, ◌&&◌, List, IfSome, Ok, IsTrue, IsFalse, refl, sym, ◌∙◌, ap, subst, arith, eq-eqb, length}
 use Rattle.std.specs.Prelude.{is_some, [], Result}
 use Rattle.lvm_num.specs.declared.record.Kind.TheVariants as kind
 use Rattle.lvm_num.specs.declared.record.Stamp.{Stamp}
@@ -7,13 +7,17 @@ use Rattle.lvm_num.specs.declared.descriptor.Descriptor.{Descriptor}
 use Rattle.lvm_num.specs.Buffer.{Buffer, Sector}
 use Rattle.lvm_num.specs.Descriptor.{IsValid, is_member}
 use Rattle.lvm_num.specs.DescriptorBytes.{descriptor_of}
-use Rattle.lvm_num.specs.Record.{Frames}
+use Rattle.lvm_num.specs.declared.record.Kind.{Kind}
+use Rattle.lvm_num.specs.Record.{Frames, longest_content, record_sectors, slot_size, slot_start}
+use Rattle.lvm_num.proofs.TornLemmas.Torn.{sectors-fit}
 use Rattle.lvm_num.specs.Status.{calls_missing}
 use Rattle.lvm_vol.specs.Facts.{Fact}
-use Rattle.lvm_disk.specs.Device.{Media, Device, image_of, HasSectors}
+use Rattle.lvm_disk.specs.Device.{Image, Media, Device, image_of, HasSectors}
 use Rattle.lvm_disk.specs.Steps.{BothTold}
 use Rattle.lvm_disk.proofs.PathsLemmas.{map-path, append-path, last-path}
-use Rattle.lvm_kept.specs.Contents.{contents_of}
+use Rattle.lvm_kept.specs.Contents.{contents_of, descriptor_on}
+use Rattle.lvm_kept.specs.Group.{is_of, passes}
+use Rattle.lvm_kept.proofs.PlacesLemmas.{at-same, newest-same}
 use Rattle.lvm_kept.specs.Plans.{ChangesBy}
 use Rattle.lvm_kept.specs.Torn.{RecordWrite, IsOfRecord}
 use Rattle.lvm_status.specs.passed.Names.{SameMissing}
@@ -32,13 +36,14 @@ use Rattle.lvm_commit.specs.Committed.{next_stamp, IsAlike}
 use Rattle.lvm_commit.specs.LawsOfVolumes.{VolumesServe, LeavesOthers}
 use Rattle.lvm_commit.specs.LawsOfFinding.{FindsNoMore, FindsNoMoreOn}
 use Rattle.lvm_commit.proofs.RoundsLemmas.Leaving.{wants_marks, round_left, left_then}
-use Rattle.lvm_commit.specs.Settling.{EndsAtOnce, IsForgotten, StaysCommitted, MarksLeft, there, IsOf, SessionIsHeld, WantsMarks, OthersAreLeft, OnlyLoses, HasLostQuorum, SpendsNumbers, IsOfStatus, IsOfCommit, IsOneRecord, StatusStaysKept, DescriptorStaysKept, StatusFindsNothingNew, StaysHeld, CommitLeaves, ComesBack, StatusEnds, DescriptorEnds}
+use Rattle.lvm_commit.specs.Settling.{EndsAtOnce, IsForgotten, StaysCommitted, MarksLeft, there, IsOf, SessionIsHeld, WantsMarks, OthersAreLeft, OnlyLoses, HasLostQuorum, SpendsNumbers, IsOfStatus, IsOfCommit, IsOneRecord, MembersAreLeft, StatusStaysKept, DescriptorStaysKept, StatusFindsNothingNew, StaysHeld, CommitLeaves, ComesBack, StatusEnds, DescriptorEnds}
 use Rattle.lvm_commit.specs.Rounds.{MarksRound, stamped, session_write, WasTried, RecordGives}
 use Rattle.lvm_commit.proofs.SettlingLemmas.Chaining.{Goes, path_counts, keeps_wider, loses_less, loses_then, not_there, record_returns, returns_then, lost_quorum_then, spends_numbers_then, stays_before}
 use Rattle.lvm_commit.proofs.SettlingLemmas.Round.{none_or_some, failed_is_missing, was_there_on}
 use Rattle.lvm_commit.proofs.SettlingLemmas.Ready.{spends_one, spends_none}
 use Rattle.lvm_commit.proofs.LawsOfFindingLemmas.NoMore.{then_no_more}
-use Rattle.lvm_commit.proofs.LawsOfWritesLemmas.Holding.{told_with, told_before, with_told}
+use Rattle.lvm_commit.proofs.LawsOfWritesLemmas.Holding.{told_with, told_before, with_told, whole, held_at, later}
+use Rattle.lvm_commit.proofs.LawsOfWritesLemmas.Writes.{descriptors_change}
 use Rattle.lvm_commit.proofs.LawsOfFindingLemmas.HoldingDescriptor.{descriptor_holds}
 use Rattle.lvm_commit.proofs.SettlingLemmas.Describing.{describes, stamp_is, is_of_commit, descriptor_finds, descriptor_kept}
 
@@ -66,6 +71,21 @@ leaves_others_on id next old new R own both finds =
     (λ before. before)
     (λ (it : (other ≡ next.id) × (k ≡ next)). absurd (apart (it.0 ∙ own)))
     (told_at old.media (λ media. FindsNoMore next (contents_of (image_of old.sizes media)) (contents_of (image_of new.sizes is))) was told_was (finds (image_of new.sizes is) (media_may new is told_is)) other k found))
+
+-- statuses leave the descriptors
+status_leaves : (mid last : Stored) (old new : Image) → ChangesBy (IsOfStatus mid last) old new → (e : ℕ) → descriptor_on new e ≡ descriptor_on old e
+unfolding descriptor_on
+status_leaves mid last old new changes e = at-same descriptor_of kind.Descriptor old new e changes.same (newest-same descriptor_of kind.Descriptor (old.sector e) (new.sector e) (λ slot s two from to. ⊎_elim
+    (λ same. same)
+    (λ is. absurd (apart is.0.kind (is.0.slots e) is.2.its.its.part s is.1.kind (is.2.slots e) (below is.0.kind is.0.framed.content is.2.its.its.part is.2.frames.content is.2.its.its.inside) is.2.its.its.place (omega (arith, from))))
+    (changes.each e s)))
+  where
+    below : (w : Kind) (content : List ℕ) (part : ℕ) → length content ≤ longest_content w → part < record_sectors (length content) → part < slot_size w
+    below w content part fits inside = let fit = sectors-fit w (length content) fits in omega (arith, fit, inside)
+
+    apart : (w : Kind) (slot part s : ℕ) → w ≡ kind.Status → slot < 2 → part < slot_size w → s ≡ slot_start w slot + part → slot_start kind.Descriptor 0 ≤ s → ⊥
+    apart kind.Descriptor slot part s is two low at from = absurd (cc is)
+    apart kind.Status slot part s is two low at from = absurd (omega (arith, two, low, at, from))
 
 -- A descriptor was written, and then what was wanted of the status was committed.
 pub record Described (d : Descriptor) (first mid last : Stored) (homes after final : Homes) (old m new : Device) (content : List ℕ) (number p q : ℕ) (buf : Buffer) (r : CommitEnd) : Type 0 where
@@ -202,10 +222,26 @@ module _ (d : Descriptor) (first mid last : Stored) (homes after final : Homes) 
     commit_finds finds = then_no_more old m new (λ was is. ChangesBy (IsOfRecord w) (image_of old.sizes was) (image_of m.sizes is)) one.keeps.media (finds next next_is_of next_held) next
         (descriptor_finds first mid homes after old m content number p q (commit_end.Done buf) k.gives k.sectors k.frames group next reads held)
 
-    commit_held : StatusFindsNothingNew mid after m new → StaysHeld mid last after final m new → SessionIsHeld new next last final × OthersAreLeft group.id old new
+    -- a disk shows the descriptor that it showed, or the next one; and that stays as statuses are written
+    abbrev Passes : ℕ → Device → Device → Media → Media → Type 0
+    Passes id a b was is = (e : ℕ) → passes (is_of id) ((contents_of (image_of a.sizes was)).descriptor e) ≡ true → passes (is_of id) ((contents_of (image_of b.sizes is)).descriptor e) ≡ true
+
+    record_leaves : BothTold old.media m.media (Passes group.id old m)
+    record_leaves = both_map old.media m.media (λ was is. ChangesBy (IsOfRecord w) (image_of old.sizes was) (image_of m.sizes is)) (Passes group.id old m) one.keeps.media (λ was is told_was told_is changes e shows. ⊎_elim
+        (λ same. ap (passes (is_of group.id)) same ∙ shows)
+        (λ own_now. ap (passes (is_of group.id)) own_now.1 ∙ eq-eqb next.id group.id (ap (λ (g : Descriptor). g.id) alike))
+        ((descriptors_change group next first.committed (there first) first.stamp homes w.framed (image_of old.sizes was) (whole first homes old k.sectors kind.Descriptor content was told_was)
+        (held_at first homes old k.sectors kind.Descriptor content group was told_was held) k.frames reads (later first homes old k.sectors kind.Descriptor content) (image_of m.sizes is) changes).own e))
+
+    statuses_leave : BothTold m.media new.media (Passes group.id m new)
+    statuses_leave = both_map m.media new.media (λ was is. ChangesBy (IsOfStatus mid last) (image_of m.sizes was) (image_of new.sizes is)) (Passes group.id m new) k.keeps.media
+        (λ was is told_was told_is changes e shows. ap (passes (is_of group.id)) (status_leaves mid last (image_of m.sizes was) (image_of new.sizes is) changes e) ∙ shows)
+
+    commit_held : StatusFindsNothingNew mid after m new → StaysHeld mid last after final m new → SessionIsHeld new next last final × OthersAreLeft group.id old new × MembersAreLeft group.id old new
     commit_held finds stays = (
       (stays next next_is_of next_held).0,
       leaves_others_on group.id next old new (λ was is. Unit {0}) (ap (λ (g : Descriptor). g.id) alike) both (commit_finds finds),
+      both_then old.media m.media new.media (Passes group.id old m) (Passes group.id m new) (Passes group.id old new) (λ a b c p q e shows. q e (p e shows)) record_leaves statuses_leave,
     )
 
   -- ---- how it ended

@@ -10,6 +10,6 @@ pub returns : goal.returns
 returns c =
     let rows = c.self.inside.rows.items in
     let is : c.is_some.result ≡ is_some (find (λ (row : Row). row.id == c.args.id) rows) =
-    c.is_some.ensures ∙ ap is_some c.place_of.ensures.place ∙ ap (λ (rs : List Row). is_some (place_in c.args.id rs)) c.deref.ensures.value ∙ place_tells rows c.args.id in
+    c.is_some.ensures ∙ ap is_some c.place_of.ensures.place ∙ ap (λ (rs : List Row). is_some (place_in c.args.id rs)) c.as_slice.ensures ∙ place_tells rows c.args.id in
     let tells = inside_tells rows c.args.id (find (λ (row : Row). row.id == c.args.id) rows) c.self.invariant.2.ascending refl in
     rw (is, ← c.self.view_is) (tells.0, tells.1)

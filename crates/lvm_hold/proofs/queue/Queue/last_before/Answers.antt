@@ -1,5 +1,6 @@
 use Rattle.std.proofs.Common.{◌≡◌, ◌<◌, ◌∙◌, Some, None, ap, sym, arith, length}
 use Rattle.std.proofs.lemmas.List.{get_or_default}
+use Rattle.std.proofs.lemmas.Option.{get_or_from_slice_get}
 use Rattle.lvm_hold.specs.declared.queue.Row.{Row}
 use Rattle.lvm_hold.specs.Waiting.{Waiting}
 use Rattle.lvm_hold.specs.Chains.{first_of, place_in}
@@ -20,5 +21,8 @@ returns-in-Some-clause-place c =
     let first : first_of c.args.head rows ≡ Some c.in-Some.first =
     sym (c.self.invariant.2.heads_are c.args.head c.requires.head) ∙ sym (get_or_default heads c.args.head _ None there) ∙ sym c.index.ensures ∙ c.in-Some.is in
     let at : place_in c.in-Some.first rows ≡ Some c.args.place =
-    place_some rows c.in-Some.first c.args.place order within (λ d. ap (λ (r : Row). r.id) (get_or_default rows c.args.place d _ within ∙ sym c.index-in-Some-1.ensures) ∙ sym c.if-first-index.true) in
+    place_some rows c.in-Some.first c.args.place order within (λ d. ap (λ (r : Row). r.id) (get_or_from_slice_get rows c.args.place c.at.result d c.at.ensures) ∙ sym c.if-first-at.true) in
     rw (← c.self.view_is) (sym (none_before_place rows c.args.head c.in-Some.first c.args.place order at first))
+
+pub at-requires : goal.at-requires
+at-requires c = omega (arith, c.requires.there, ap (λ (w : Waiting). length w.rows) c.self.view_is)
