@@ -1,5 +1,6 @@
 -- What a turn does, one record behind the other.
-use Rattle.std.proofs.Common.{◌≡◌, inl, inr, ⊎_elim, ℕ, ◌+◌, ◌&&◌, not, List, IsFalse, Ok, refl, sym, ap, subst, ◌∙◌, arith}
+use Rattle.std.proofs.Common.{◌≡◌, inl, inr, ⊎_elim, ℕ, ◌+◌, Bool, ◌&&◌, not, List, IfSome, IsTrue, IsFalse, Ok, refl, sym, ap, subst, ◌∙◌, arith}
+use Rattle.std.specs.Prelude.{if◌then◌else◌}
 use Rattle.lvm_num.specs.declared.record.Kind.TheVariants as kind
 use Rattle.lvm_num.specs.declared.record.Stamp.{Stamp}
 use Rattle.lvm_num.specs.declared.descriptor.Descriptor.{Descriptor}
@@ -32,11 +33,12 @@ use Rattle.lvm_commit.specs.Committed.{next_stamp}
 use Rattle.lvm_commit.specs.LawsOfFinding.{FindsNothingNew, FindsNoMore, FindsNothingNewOn, FindsNoMoreOn}
 use Rattle.lvm_commit.proofs.SettlingLemmas.Chaining.{path_counts, keeps_wider}
 use Rattle.lvm_commit.proofs.LawsOfWritesLemmas.Holding.{with_told}
+use Rattle.lvm_change_laws.specs.Rule.{members_among, IsShownOn}
 use Rattle.lvm_change.specs.declared.turn.Turn.{Turn}
 use Rattle.lvm_change.specs.declared.turn.Turned.{Turned}
 use Rattle.lvm_change.specs.declared.turn.Turned.TheVariants as turned
 use Rattle.lvm_change.specs.Turn.{MayTurn, MayDescribe, HoldsBy, IsBefore, IsBetween, IsOfTurn, IsByBoth, HasFewVotes, ComesBack, TurnEnds, TurnGives, DescriptionGives}
-use Rattle.lvm_change.proofs.TurnLemmas.{comes_back, status_kept, status_finds, status_held, status_opens, descriptor_kept, descriptor_finds, descriptor_held, back_then}
+use Rattle.lvm_change.proofs.TurnLemmas.{comes_back, status_kept, status_finds, status_held, status_opens, descriptor_kept, descriptor_finds, descriptor_held, descriptor_shown, back_then}
 
 -- ---- the descriptor
 
@@ -67,7 +69,7 @@ module _ (turn : Turn) (there : Disks) (stamp : Stamp) (homes : Homes) (old : De
     finds = λ between. descriptor_finds turn.was.now turn.next.now turn.told.now turn.content.now there stamp homes old sectors frames reads old (writing_here (IsOfRecord wd) old may.ready.flights) between.0;
   }
     where
-      ends : (result : Turned) → ((written : ℕ) (back : Buffer) → result ≡ turned.Done written back → ⊥) → IsByBoth turn.was.now turn.next.now there buf result → TurnEnds turn Between there (next_stamp stamp) homes number p old old result
+      ends : (result : Turned) → ((written : ℕ) (back : Buffer) → result ≡ turned.Done written back → ⊥) → IsByBoth turn.was.now turn.next.now there buf result → TurnEnds turn Between there (next_stamp stamp) homes homes number p old old result
       ends (turned.Done written back) never by = absurd (never written back refl)
       ends (turned.WentOff have total written back) never by = (
         subst (λ (set : Disks). ComesBack there set number old old back) (sym by.1) (record {
@@ -94,7 +96,7 @@ module _ (turn : Turn) (there : Disks) (stamp : Stamp) (homes : Homes) (old : De
       its = its;
     }
 
-    pub described : (result : Turned) → TurnEnds turn Between there (next_stamp stamp) slots number p old new result → DescriptionGives turn there stamp homes slots number p q old new result
+    pub described : (result : Turned) → TurnEnds turn Between there (next_stamp stamp) homes slots number p old new result → DescriptionGives turn there stamp homes slots number p q old new result
     described result ends = record {
       ends = ends;
       keeps = keeps_wider there there (IsOfRecord wd) (IsOfTurn turn there stamp (next_stamp stamp)) old new (λ d off. off) of_turn leaves.keeps;
@@ -105,22 +107,24 @@ module _ (turn : Turn) (there : Disks) (stamp : Stamp) (homes : Homes) (old : De
     }
 
     pub tried : (failed set : Disks) (buf : Buffer) → EachTried there (StandsTold wd) (λ written. Flips kind.Descriptor written homes slots) number old new failed buf → set ≡ written_well there failed → (result : Turned)
-        → IsByBoth turn.was.now turn.next.now set buf result → TurnEnds turn Between there (next_stamp stamp) slots number p old new result
+        → IsByBoth turn.was.now turn.next.now set buf result → TurnEnds turn Between there (next_stamp stamp) homes slots number p old new result
     tried failed set buf each set_is result by = ends result by
       where
         comes : (written : Disks) (back : Buffer) → back ≡ buf → written ≡ set → ComesBack there written number old new back
         comes written back same is = subst (λ (b : Buffer). ComesBack there written number old new b) (sym same) (subst (λ (s : Disks). ComesBack there s number old new buf) (sym (is ∙ set_is))
             (comes_back turn.was.now turn.told.now kind.Descriptor turn.content.now there stamp homes old sectors slots new failed number buf each))
 
-        ends : (result : Turned) → IsByBoth turn.was.now turn.next.now set buf result → TurnEnds turn Between there (next_stamp stamp) slots number p old new result
+        ends : (result : Turned) → IsByBoth turn.was.now turn.next.now set buf result → TurnEnds turn Between there (next_stamp stamp) homes slots number p old new result
         ends (turned.Done written back) by = (
           comes (has written) back by.0 by.1,
           record {
             enough = subst (λ (s : Disks). CanWrite turn.was.now s) (sym by.1) by.2;
             enough_too = subst (λ (s : Disks). CanWrite turn.next.now s) (sym by.1) by.3;
-            held = λ between. subst (λ (s : Disks). HoldsBy new turn.next.now turn.told.now s (next_stamp stamp) slots) (sym (by.1 ∙ set_is))
+            held = λ between. subst (λ (s : Disks). HoldsBy new turn.next.now turn.told.now (members_among turn.next.now s) (next_stamp stamp) slots) (sym (by.1 ∙ set_is))
                 (descriptor_held turn.was.now turn.next.now turn.told.now turn.content.now there stamp homes old sectors frames reads enough enough_too slots new failed number buf each leaves.keeps
                 (subst (λ (s : Disks). CanWrite turn.was.now s) set_is by.2) (subst (λ (s : Disks). CanWrite turn.next.now s) set_is by.3) between.1 between.0);
+            shown = λ between. subst (λ (s : Disks). IfSome new.media (λ media. (disk : ℕ) → IsTrue (s disk) → IsShownOn (image_of new.sizes media) turn.next.now homes disk)) (sym (by.1 ∙ set_is))
+                (descriptor_shown turn.was.now turn.next.now turn.told.now turn.content.now there stamp homes old sectors frames reads enough enough_too slots new failed number buf each leaves.keeps between.1 between.0);
           },
         )
         ends (turned.WentOff have total written back) by = (comes (has written) back by.0 by.1, subst (λ (s : Disks). HasFewVotes turn.was.now turn.next.now s have total) (sym by.1) by.2)
@@ -173,13 +177,13 @@ module _ (turn : Turn) (there : Disks) (stamp : Stamp) (homes : Homes) (old : De
 
     status_path : Path DeviceStep (λ d. Before → StaysKept old d) old m
     status_path = map-path (λ d. Before → StaysKept old d)
-        (λ d is before. status_kept turn.was.now turn.next.now before.0 turn.told.now turn.status.now there stamp homes old sectors status_frames status_reads d is.0 is.1 may.rule before.1 before.2) (with_told leaves.moments)
+        (λ d is before. status_kept turn.was.now turn.next.now before.0 turn.told.now turn.status.now there stamp homes old sectors status_frames status_reads d is.0 is.1 may.leaves may.change before.1 before.2) (with_told leaves.moments)
 
     status_no_more : Before → FindsNothingNewOn old m
     status_no_more before = status_finds turn.was.now turn.next.now before.0 turn.told.now turn.status.now there stamp homes old sectors status_frames status_reads m (last-path leaves.moments) before.2
 
     -- it was broken off
-    pub broken_off : (result : Turned) → TurnEnds turn Before there (next_stamp (next_stamp stamp)) slots number p old m result → TurnGives turn there stamp homes slots number p q old m result
+    pub broken_off : (result : Turned) → TurnEnds turn Before there (next_stamp (next_stamp stamp)) homes slots number p old m result → TurnGives turn there stamp homes slots number p q old m result
     broken_off result ends = record {
       ends = ends;
       keeps = status_keeps;
@@ -197,8 +201,8 @@ module _ (turn : Turn) (there : Disks) (stamp : Stamp) (homes : Homes) (old : De
       may_describe = record {
         ready = each.back.ready;
         records = may.records;
-        valid = may.rule.valid;
-        valid_next = may.rule.valid_next;
+        valid = may.change.valid;
+        valid_next = may.change.valid_next;
         room = λ d is. still_room old m d leaves.keeps.sizes (may.room d ((status_back).within d is));
         epoch = may.epoch;
         bound = may.bound;
@@ -214,7 +218,7 @@ module _ (turn : Turn) (there : Disks) (stamp : Stamp) (homes : Homes) (old : De
       between : Before → IsBetween turn set (next_stamp stamp) slots m
       between before = (
         status_held turn.was.now turn.next.now before.0 turn.told.now turn.status.now there stamp homes old sectors status_frames status_reads slots m failed number buf each leaves.keeps before.1 before.2,
-        status_opens turn.was.now turn.next.now before.0 turn.told.now turn.status.now there stamp homes old sectors status_frames status_reads slots m failed number buf each leaves.keeps may.rule before.2,
+        status_opens turn.was.now turn.next.now before.0 turn.told.now turn.status.now there stamp homes old sectors status_frames status_reads slots m failed number buf each leaves.keeps may.leaves may.change before.2,
       )
 
       module _ (final : Homes) (r : ℕ) (new : Device) (result : Turned) (two : DescriptionGives turn set (next_stamp stamp) slots final buf.number q r m new result) where
@@ -231,10 +235,25 @@ module _ (turn : Turn) (there : Disks) (stamp : Stamp) (homes : Homes) (old : De
         outside : (d : ℕ) → IsFalse (there d) → IsFalse (set d)
         outside d off = ap (λ b. b && not (failed d)) off
 
-        turn_ends : (x : Turned) → TurnEnds turn (IsBetween turn set (next_stamp stamp) slots m) set (next_stamp (next_stamp stamp)) final buf.number q m new x → TurnEnds turn Before there (next_stamp (next_stamp stamp)) final number p old new x
+        other_kind : kind.Descriptor ≡ kind.Status → ⊥
+        other_kind e = absurd cc
+
+        turn_ends : (x : Turned) → TurnEnds turn (IsBetween turn set (next_stamp stamp) slots m) set (next_stamp (next_stamp stamp)) slots final buf.number q m new x → TurnEnds turn Before there (next_stamp (next_stamp stamp)) homes final number p old new x
         turn_ends (turned.Done written back) ends = (
           back_then there set (has written) number old m new buf back (path_counts two.kept) status_comes ends.0,
-          record { enough = ends.1.enough; enough_too = ends.1.enough_too; held = λ before. ends.1.held (between before) },
+          record {
+            enough = ends.1.enough;
+            enough_too = ends.1.enough_too;
+            held = λ before. ends.1.held (between before);
+            shown = λ before. if_told new.media (λ media. (disk : ℕ) → IsTrue (has written disk) → IsShownOn (image_of new.sizes media) turn.next.now homes disk) (λ media told disk is.
+                let its = told_at new.media (λ m. (d : ℕ) → IsTrue (has written d) → IsShownOn (image_of new.sizes m) turn.next.now slots d) media told (ends.1.shown (between before)) disk is in
+                record {
+                  record_is = its.record_is;
+                  value = its.value;
+                  shown = its.shown;
+                  older = its.older ∙ ap (λ (b : Bool). if b then 0 else 1) (each.next.other kind.Descriptor other_kind disk);
+                });
+          },
         )
         turn_ends (turned.WentOff have total written back) ends = (back_then there set (has written) number old m new buf back (path_counts two.kept) status_comes ends.0, ends.1)
         turn_ends turned.Dark ends = darkened_then number buf.number old m new status_comes.number_is status_comes.cuts ends

@@ -37,8 +37,8 @@ use Rattle.lvm_commit.specs.LawsOfWrites.{StandsWritten}
 use Rattle.lvm_commit.proofs.LawsOfFindingLemmas.Finding.{status_write_finds_nothing_new, descriptor_write_finds_no_more}
 use Rattle.lvm_commit.proofs.LawsOfWritesLemmas.Holding.{told_before}
 use Rattle.lvm_commit.proofs.LawsOfWritesLemmas.Writes.{statuses_change, status_write_keeps, status_is_held}
-use Rattle.lvm_change_laws.specs.Rule.{MayChangeRule, IsOpenTo, MayTurnTo}
-use Rattle.lvm_change_laws.proofs.RuleLemmas.{rule_opens, statuses_leave_open, rerowed_may_follow, turn_write_keeps, turn_is_held}
+use Rattle.lvm_change_laws.specs.Rule.{MayChange, IsOpenTo, MayTurnTo, members_among, IsShownOn}
+use Rattle.lvm_change_laws.proofs.RuleLemmas.{change_opens, statuses_leave_open, rerowed_may_follow, turn_write_keeps, turn_is_held, turn_is_shown}
 use Rattle.lvm_change.specs.Turn.{HoldsBy, ComesBack}
 
 pub no_later : (stamp : Stamp) → IsNoLater stamp stamp
@@ -109,11 +109,11 @@ module _ (group next : Descriptor) (status told : Status) (content : List ℕ) (
   abbrev ws : RecordWrite
   ws = w group status kind.Status content there stamp homes old sectors
 
-  pub status_kept : (d : Device) → IsWriting (IsOfRecord ws) old d → is_some d.media ≡ is_some old.media → MayChangeRule group next there → IsRerowed next status told → HoldsBy old group status there stamp homes → StaysKept old d
-  status_kept d writing same may rerowed held facts kept image left =
+  pub status_kept : (d : Device) → IsWriting (IsOfRecord ws) old d → is_some d.media ≡ is_some old.media → (leaves : Disks) → MayChange leaves group next there → IsRerowed next status told → HoldsBy old group status there stamp homes → StaysKept old d
+  status_kept d writing same leaves may rerowed held facts kept image left =
       let m = told_before old d image same left in
       let holds = at group status kind.Status content there stamp homes old sectors m.0 m.1 held in
-      let opened = rule_opens (contents_of (image_of old.sizes m.0)) group next status there may holds.shows in
+      let opened = change_opens (contents_of (image_of old.sizes m.0)) leaves group next status there may holds.shows in
       status_write_keeps group status told there stamp homes (framed group status kind.Status content there stamp homes old sectors) (image_of old.sizes m.0) image facts (whole group status kind.Status content there stamp homes old sectors m.0 m.1) may.enough
       holds frames reads (rerowed.id ∙ holds.shows.own) (rerowed_may_follow (contents_of (image_of old.sizes m.0)) group next status told opened.two rerowed)
       (no_later (next_stamp stamp)) (by_at group status kind.Status content there stamp homes old sectors d m.0 m.1 writing image left) (kept (image_of old.sizes m.0) (media_may old m.0 m.1))
@@ -135,15 +135,15 @@ module _ (group next : Descriptor) (status told : Status) (content : List ℕ) (
         status_is_held group status told there set stamp homes slots (framed group status kind.Status content there stamp homes old sectors) (image_of old.sizes back.0) (image_of new.sizes k) (whole group status kind.Status content there stamp homes old sectors back.0 back.1)
         holds frames reads (rerowed.id ∙ holds.shows.own) (no_later (next_stamp stamp)) (stand group status kind.Status content there stamp homes old sectors slots new failed number buf each back.0 k told_new back.2))
 
-    pub status_opens : MayChangeRule group next there → HoldsBy old group status there stamp homes → IfSome new.media (λ media. IsOpenTo (contents_of (image_of new.sizes media)) group next set)
-    status_opens may held = if_told new.media (λ media. IsOpenTo (contents_of (image_of new.sizes media)) group next set) (λ k told_new.
+    pub status_opens : (leaves : Disks) → MayChange leaves group next there → HoldsBy old group status there stamp homes → IfSome new.media (λ media. IsOpenTo (contents_of (image_of new.sizes media)) group next set)
+    status_opens leaves may held = if_told new.media (λ media. IsOpenTo (contents_of (image_of new.sizes media)) group next set) (λ k told_new.
         let back = both_from old.media new.media (λ was is. ChangesBy (IsOfRecord ws) (image_of old.sizes was) (image_of new.sizes is)) k keeps.media told_new in
         let holds = at group status kind.Status content there stamp homes old sectors back.0 back.1 held in
         statuses_leave_open (contents_of (image_of old.sizes back.0)) (contents_of (image_of new.sizes k)) group next there set
         (statuses_change group status told there stamp homes (framed group status kind.Status content there stamp homes old sectors) (image_of old.sizes back.0) (whole group status kind.Status content there stamp homes old sectors back.0 back.1) holds frames reads
         (no_later (next_stamp stamp)) (image_of new.sizes k) back.2).rest
         (λ d is. (comes_back group status kind.Status content there stamp homes old sectors slots new failed number buf each).within d is)
-        (rule_opens (contents_of (image_of old.sizes back.0)) group next status there may holds.shows))
+        (change_opens (contents_of (image_of old.sizes back.0)) leaves group next status there may holds.shows))
 
 -- ---- a descriptor
 
@@ -175,12 +175,19 @@ module _ (group next : Descriptor) (told : Status) (content : List ℕ) (there :
     abbrev had : Disks
     had = written_well there failed
 
-    pub descriptor_held : CanWrite group had → CanWrite next had → Opened → HoldsBy old group told there stamp homes → HoldsBy new next told had (next_stamp stamp) slots
-    descriptor_held can can_too opened held = if_told new.media (λ media. HoldsCommitted (image_of new.sizes media) next told had (next_stamp stamp) slots) (λ k told_new.
+    pub descriptor_held : CanWrite group had → CanWrite next had → Opened → HoldsBy old group told there stamp homes → HoldsBy new next told (members_among next had) (next_stamp stamp) slots
+    descriptor_held can can_too opened held = if_told new.media (λ media. HoldsCommitted (image_of new.sizes media) next told (members_among next had) (next_stamp stamp) slots) (λ k told_new.
         let back = both_from old.media new.media (λ was is. ChangesBy (IsOfRecord wd) (image_of old.sizes was) (image_of new.sizes is)) k keeps.media told_new in
         turn_is_held group next told there had stamp homes slots (framed group told kind.Descriptor content there stamp homes old sectors) (image_of old.sizes back.0) (image_of new.sizes k) (whole group told kind.Descriptor content there stamp homes old sectors back.0 back.1)
         (at group told kind.Descriptor content there stamp homes old sectors back.0 back.1 held) (may_at enough enough_too back.0 back.1 opened) frames reads (no_later (next_stamp stamp))
         (stand group told kind.Descriptor content there stamp homes old sectors slots new failed number buf each back.0 k told_new back.2) can can_too)
+
+    pub descriptor_shown : Opened → HoldsBy old group told there stamp homes → IfSome new.media (λ media. (disk : ℕ) → IsTrue (had disk) → IsShownOn (image_of new.sizes media) next homes disk)
+    descriptor_shown opened held = if_told new.media (λ media. (disk : ℕ) → IsTrue (had disk) → IsShownOn (image_of new.sizes media) next homes disk) (λ k told_new.
+        let back = both_from old.media new.media (λ was is. ChangesBy (IsOfRecord wd) (image_of old.sizes was) (image_of new.sizes is)) k keeps.media told_new in
+        turn_is_shown group next told there had stamp homes slots (framed group told kind.Descriptor content there stamp homes old sectors) (image_of old.sizes back.0) (image_of new.sizes k) (whole group told kind.Descriptor content there stamp homes old sectors back.0 back.1)
+        (at group told kind.Descriptor content there stamp homes old sectors back.0 back.1 held) (may_at enough enough_too back.0 back.1 opened) frames reads (no_later (next_stamp stamp))
+        (stand group told kind.Descriptor content there stamp homes old sectors slots new failed number buf each back.0 k told_new back.2))
 
 -- ---- one behind the other
 

@@ -1,4 +1,3 @@
 pub mod Parting
-pub mod Records
 pub mod Rule
 pub mod Turn

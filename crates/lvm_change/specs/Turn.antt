@@ -1,4 +1,4 @@
--- How a group turns to its next descriptor, by which it has another rule of votes or another size.
+-- How a group turns to its next descriptor, by which it has another rule of votes or another size, or fewer members.
 use Rattle.std.specs.Prelude.{◌≡◌, ◌≢◌, ◌⊎◌, ℕ, ◌+◌, ◌<◌, ◌≤◌, ◌^◌, length, IfSome, IsTrue, IsFalse}
 use Rattle.lvm_num.specs.declared.record.Kind.TheVariants as kind
 use Rattle.lvm_num.specs.declared.record.Stamp.{Stamp}
@@ -24,7 +24,7 @@ use Rattle.lvm_write.specs.Parts.{Spends}
 use Rattle.lvm_write.specs.Written.{HaveRoom, KeepsShelf, IsDarkened, IsGivenUp}
 use Rattle.lvm_commit.specs.Committed.{next_stamp, HoldsCommitted}
 use Rattle.lvm_commit.specs.LawsOfFinding.{FindsNoMoreOn}
-use Rattle.lvm_change_laws.specs.Rule.{MayChangeRule, IsOpenTo}
+use Rattle.lvm_change_laws.specs.Rule.{MayChange, IsOpenTo, members_among, IsShownOn}
 use Rattle.lvm_change.specs.declared.turn.Turn.{Turn}
 use Rattle.lvm_change.specs.declared.turn.Turned.{Turned}
 use Rattle.lvm_change.specs.declared.turn.Turned.TheVariants as turned
@@ -43,7 +43,8 @@ pub record AreRecords (turn : Turn) : Type 0 where
 pub record MayTurn (turn : Turn) (there : Disks) (stamp : Stamp) (device : Device) : Type 0 where
   pub ready : IsReady device
   pub records : AreRecords turn
-  pub rule : MayChangeRule turn.was.now turn.next.now there
+  pub leaves : Disks
+  pub change : MayChange leaves turn.was.now turn.next.now there
   pub room : HaveRoom device there
   pub epoch : stamp.epoch ≢ 0
   pub bound : stamp.epoch < 2 ^ 64
@@ -114,26 +115,28 @@ pub record ComesBack (there written : Disks) (number : ℕ) (old new : Device) (
   pub well : (d : ℕ) → IsTrue (written d) → new.counts.faults d ≡ old.counts.faults d
   pub badly : (d : ℕ) → IsTrue (there d) → IsFalse (written d) → Rose (old.counts.faults d) (new.counts.faults d)
 
--- These disks have votes enough to write by both descriptors; where the disks held what was committed they now hold the next descriptor and its status.
-pub record HasTurned (turn : Turn) (Before : Type 0) (written : Disks) (last : Stamp) (slots : Homes) (new : Device) : Type 0 where
+-- These disks have votes enough to write by both descriptors; where the disks held what was committed the next one's members among them now hold it and its status, and each of
+-- them shows it, in the slot to which it went.
+pub record HasTurned (turn : Turn) (Before : Type 0) (written : Disks) (last : Stamp) (homes slots : Homes) (new : Device) : Type 0 where
   pub enough : CanWrite turn.was.now written
   pub enough_too : CanWrite turn.next.now written
-  pub held : Before → HoldsBy new turn.next.now turn.told.now written last slots
+  pub held : Before → HoldsBy new turn.next.now turn.told.now (members_among turn.next.now written) last slots
+  pub shown : Before → IfSome new.media (λ media. (disk : ℕ) → IsTrue (written disk) → IsShownOn (image_of new.sizes media) turn.next.now homes disk)
 
 -- how it ends, by its answer
-abbrev pub TurnEnds : Turn → Type 0 → Disks → Stamp → Homes → ℕ → ℕ → Device → Device → Turned → Type 0
-TurnEnds turn Before there last slots number patience old new (turned.Done written buf) = ComesBack there (has written) number old new buf × HasTurned turn Before (has written) last slots new
-TurnEnds turn Before there last slots number patience old new (turned.WentOff have total written buf) =
+abbrev pub TurnEnds : Turn → Type 0 → Disks → Stamp → Homes → Homes → ℕ → ℕ → Device → Device → Turned → Type 0
+TurnEnds turn Before there last homes slots number patience old new (turned.Done written buf) = ComesBack there (has written) number old new buf × HasTurned turn Before (has written) last homes slots new
+TurnEnds turn Before there last homes slots number patience old new (turned.WentOff have total written buf) =
     ComesBack there (has written) number old new buf × HasFewVotes turn.was.now turn.next.now (has written) have total
-TurnEnds turn Before there last slots number patience old new turned.Dark = IsDarkened number old new
-TurnEnds turn Before there last slots number patience old new turned.Stuck = IsGivenUp number patience old new
+TurnEnds turn Before there last homes slots number patience old new turned.Dark = IsDarkened number old new
+TurnEnds turn Before there last homes slots number patience old new turned.Stuck = IsGivenUp number patience old new
 
 -- ---- all of it
 
 -- Whatever the answer: only the two records were brought to these disks, what was kept is kept at each moment, and nothing more is found than the next descriptor, where the
 -- disks held what was committed.
-pub record Turns (turn : Turn) (Before : Type 0) (there : Disks) (first second : Stamp) (slots : Homes) (number before after : ℕ) (old new : Device) (result : Turned) : Type 0 where
-  pub ends : TurnEnds turn Before there second slots number before old new result
+pub record Turns (turn : Turn) (Before : Type 0) (there : Disks) (first second : Stamp) (homes slots : Homes) (number before after : ℕ) (old new : Device) (result : Turned) : Type 0 where
+  pub ends : TurnEnds turn Before there second homes slots number before old new result
   pub keeps : KeepsShelf there (IsOfTurn turn there first second) old new
   pub spends : Spends before after old new
   pub kept : Path DeviceStep (λ d. Before → StaysKept old d) old new
@@ -142,9 +145,9 @@ pub record Turns (turn : Turn) (Before : Type 0) (there : Disks) (first second :
 -- what a turn does behind the record of this stamp,
 abbrev pub TurnGives : Turn → Disks → Stamp → Homes → Homes → ℕ → ℕ → ℕ → Device → Device → Turned → Type 0
 TurnGives turn there stamp homes slots number before after old new result =
-    Turns turn (IsBefore turn there stamp homes old) there (next_stamp stamp) (next_stamp (next_stamp stamp)) slots number before after old new result
+    Turns turn (IsBefore turn there stamp homes old) there (next_stamp stamp) (next_stamp (next_stamp stamp)) homes slots number before after old new result
 
 -- and its second half behind that of the status
 abbrev pub DescriptionGives : Turn → Disks → Stamp → Homes → Homes → ℕ → ℕ → ℕ → Device → Device → Turned → Type 0
 DescriptionGives turn there stamp homes slots number before after old new result =
-    Turns turn (IsBetween turn there stamp homes old) there stamp (next_stamp stamp) slots number before after old new result
+    Turns turn (IsBetween turn there stamp homes old) there stamp (next_stamp stamp) homes slots number before after old new result

@@ -1,12 +1,10 @@
-//! A group whose rule of votes changes, or whose size does: when it may, the records by which it turns to its next descriptor, and the members that these don't reach.
+//! A group whose rule of votes changes, or whose size does, or that members leave: the records by which it turns to its next descriptor, and the members that these don't reach.
 #![tactic(auto)]
 
 mod parting;
-mod records;
 mod rule;
 mod turn;
 
 pub use parting::part_with;
-pub use records::Records;
 pub use rule::{FewVotes, as_big, few_votes_for, with_quorum};
 pub use turn::{Turn, Turned, next_stamp, turn_over, without};

@@ -1,6 +1,6 @@
--- What disks hold while a group's rule of votes changes.
+-- What disks hold while a group's rule of votes changes, or members leave it.
 use Rattle.std.proofs.Common.{◌≡◌, ◌⊎◌, inl, inr, ⊎_elim, ℕ, ◌≤◌, Bool, true, false, ◌&&◌, ◌||◌, List, [], ◌∷◌, length, Option, Some, Ok, refl, sym, ap, subst, ◌∙◌, eq-eqb, arith}
-use Rattle.std.specs.Prelude.{◌==◌, IsTrue, not, if◌then◌else◌, find}
+use Rattle.std.specs.Prelude.{◌==◌, IsTrue, not, if◌then◌else◌, nat_le, find}
 use Rattle.std.specs.List.{list_any}
 use Rattle.std.proofs.lemmas.Bool.{and_parts}
 use Rattle.std.proofs.lemmas.Bool.Decides.{nat_tests}
@@ -22,6 +22,7 @@ use Rattle.lvm_num.proofs.VotesLemmas.{read_meets_write, more_have_more, more_is
 use Rattle.lvm_rec.specs.Slots.{slot_for, IsTornWrite, BothBefore}
 use Rattle.lvm_vol.specs.Facts.{Fact}
 use Rattle.lvm_disk.specs.Device.{Image, IsWholeImage}
+use Rattle.lvm_disk.specs.passed.Names.{sectors_needed}
 use Rattle.lvm_kept.specs.Contents.{Contents, contents_of, descriptor_on}
 use Rattle.lvm_kept.specs.Group.{passes, is_of, has_room, Finds, IsFound, members_in}
 use Rattle.lvm_kept.specs.Kept.{Kept}
@@ -49,40 +50,72 @@ use Rattle.lvm_change_votes.specs.Meeting.{disks_of}
 use Rattle.lvm_change_votes.proofs.MeetingLemmas.{same_members_meet}
 use Rattle.lvm_change_votes.proofs.ReachingLemmas.{reaches_next, all_read_off}
 use Rattle.lvm_change_laws.specs.Turning.{AreTwo, ReadsTwo}
-use Rattle.lvm_change_laws.specs.Rule.{MayChangeRule, IsOpenTo, MayTurnTo, RuleOpens, StatusesLeaveOpen, RerowedMayFollow, TurnWriteKeeps, TurnIsHeld}
+use Rattle.lvm_change_laws.specs.Rule.{MayChange, RuleIsChange, IsOpenTo, MayTurnTo, members_among, ChangeOpens, StatusesLeaveOpen, RerowedMayFollow, TurnWriteKeeps, TurnIsHeld, IsShownOn, TurnIsShown}
+use Rattle.lvm_change_laws.proofs.StayingLemmas.{all_stay, staying_any, staying_member, staying_row}
 use Rattle.lvm_change_laws.proofs.TwoLemmas.{valid_are_two}
 use Rattle.lvm_change_laws.proofs.TurningLemmas.{turn_keeps, reads_are_two}
 use Rattle.lvm_change_laws.proofs.CommittedLemmas.{committed_serves, turn_is_committed}
 
 -- ---- when it may
 
-module _ (group next : Descriptor) (there : Disks) (may : MayChangeRule group next there) where
-  abbrev like : Descriptor
-  like = record group { quorum = next.quorum; even = next.even; big = next.big }
+pub rule_is_change : RuleIsChange
+rule_is_change group next there may = record {
+  valid = may.valid;
+  valid_next = may.valid_next;
+  differs = may.differs ∙ ap (λ (rows : List PvRow). record group { pvs = rows; quorum = next.quorum; even = next.even; big = next.big }) (sym (all_stay group.pvs));
+  near = same_members_meet group next (record { members = sym (ap disks_of may.differs); has = record { some = may.valid.head.a_member; apart = may.valid.members.disks_differ } });
+  enough = may.enough;
+  enough_too = may.enough_too;
+  found = may.found;
+}
 
-  are_two : AreTwo group next
+module _ (leaves : Disks) (group next : Descriptor) (there : Disks) (may : MayChange leaves group next there) where
+  -- a disk is a member by the next one just where it was and doesn't leave
+  pub member_next : (d : ℕ) → is_member next d ≡ (is_member group d && not (leaves d))
+  member_next d = ap (λ (g : Descriptor). is_member g d) may.differs ∙ staying_member leaves d group.pvs
+
+  pub was_member : (d : ℕ) → IsTrue (is_member next d) → IsTrue (is_member group d)
+  was_member d is = (and_parts (is_member group d) (not (leaves d)) (sym (member_next d) ∙ is)).0
+
+  pub are_two : AreTwo group next
   are_two = valid_are_two group next (record {
     valid_g = may.valid;
     valid_h = may.valid_next;
     id = sym (ap (λ (g : Descriptor). g.id) may.differs);
     size = sym (ap (λ (g : Descriptor). g.mib) may.differs);
     volumes = sym (ap (λ (g : Descriptor). g.lvs) may.differs);
-    near = same_members_meet group next (record { members = sym (ap disks_of may.differs); has = record { some = may.valid.head.a_member; apart = may.valid.members.disks_differ } });
-    partitions = λ d p q is also. ap (λ (row : PvRow). row.pps) (same_row p q (sym is ∙ sym (ap (λ (g : Descriptor). member_of g d) may.differs) ∙ also));
+    near = may.near;
+    partitions = λ d p q is also. ap (λ (row : PvRow). row.pps) (same_row p q (sym is ∙ staying_row leaves d group.pvs q (sym (ap (λ (g : Descriptor). member_of g d) may.differs) ∙ also)));
   })
     where
       same_row : (p q : PvRow) → Some p ≡ Some q → p ≡ q
       same_row p q e = cc
 
+  room_next : (c : Contents) (d : ℕ) → has_room c d next ≡ (has_room c d group && not (leaves d))
+  room_next c d = ap (has_room c d) may.differs ∙ staying_any leaves (λ (row : PvRow). nat_le (sectors_needed group.mib row.pps) (c.size d)) d group.pvs
+
+  has_room_still : (c : Contents) (d : ℕ) → IsTrue (has_room c d group) → IsTrue (is_member next d) → IsTrue (has_room c d next)
+  has_room_still c d room member = room_next c d ∙ both (has_room c d group) (not (leaves d)) room (and_parts (is_member group d) (not (leaves d)) (sym (member_next d) ∙ member)).1
+    where
+      both : (a b : Bool) → a ≡ true → b ≡ true → a && b ≡ true
+      both true true one two = refl
+      both true false one two = absurd cc
+      both false b one two = absurd cc
+
   module _ (c : Contents) (status : Status) (shows : ShowsCommitted c group status there) where
     abbrev set : Disks
-    set = members_in c all_disks group.id next
+    set = members_in c all_disks group.id group
 
-    set_is : set ≡ members_in c all_disks group.id group
-    set_is = ap (members_in c all_disks group.id) may.differs
+    abbrev narrowed : Disks
+    narrowed = members_in c all_disks group.id next
 
     within : (d : ℕ) → IsTrue (there d) → IsTrue (set d)
-    within d is = subst (λ (s : Disks). IsTrue (s d)) (sym set_is) (member_of_parts c all_disks group.id group d refl (shows_group c group status there shows d is) (shows.room d is))
+    within d is = member_of_parts c all_disks group.id group d refl (shows_group c group status there shows d is) (shows.room d is)
+
+    narrow : (d : ℕ) → IsTrue (is_member next d) → IsTrue (set d) → IsTrue (narrowed d)
+    narrow d member is =
+        let two = and_parts (passes (is_of group.id) (c.descriptor d)) (has_room c d group) is in
+        member_of_parts c all_disks group.id next d refl two.0 (has_room_still c d two.1 member)
 
     some : 1 ≤ length next.pvs
     some = may.valid_next.head.a_member
@@ -90,36 +123,36 @@ module _ (group next : Descriptor) (there : Disks) (may : MayChangeRule group ne
     writes : CanWrite next set
     writes = more_is_enough.write next (votes_in next there) (votes_in next set) (more_have_more next there set (λ d member is. within d is)) may.enough_too
 
-    reads_next : CanRead next set
+    reads_next : CanRead next narrowed
     reads_next = ⊎_elim
         (λ (on : next.quorum ≡ true). reached (inl on))
         (λ (rest : (group.quorum ≡ false) ⊎ ((d : ℕ) → IsTrue (is_member next d) → IsTrue (there d))). ⊎_elim
         (λ (off : group.quorum ≡ false). reached (inr off))
-        (λ (all : (d : ℕ) → IsTrue (is_member next d) → IsTrue (there d)). all_read_off next set some (λ d member. within d (all d member)))
+        (λ (all : (d : ℕ) → IsTrue (is_member next d) → IsTrue (there d)). all_read_off next narrowed some (λ d member. narrow d member (within d (all d member))))
         rest)
         may.found
       where
-        reached : (next.quorum ≡ true) ⊎ (group.quorum ≡ false) → CanRead next set
-        reached on = reaches_next group next set (record {
+        reached : (next.quorum ≡ true) ⊎ (group.quorum ≡ false) → CanRead next narrowed
+        reached on = more_is_enough.read next (votes_in next set) (votes_in next narrowed) (more_have_more next set narrowed (λ d member is. narrow d member is)) (reaches_next group next set (record {
           some = some;
-          reads = subst (λ (s : Disks). CanRead group s) (sym set_is) (finding_reads c all_disks group.id group shows.found).reads.enough;
+          reads = (finding_reads c all_disks group.id group shows.found).reads.enough;
           writes = writes;
-          fresh = λ d member. inl (subst (λ (g : Descriptor). IsTrue (is_member g d)) may.differs member);
+          fresh = λ d member. inl (was_member d member);
           on = on;
-        })
+        }))
 
-pub rule_opens : RuleOpens
-rule_opens c group next status there may shows = record {
-  two = are_two group next there may;
-  reads = reads_next group next there may c status shows;
-  room = λ d is. ap (has_room c d) may.differs ∙ shows.room d is;
+pub change_opens : ChangeOpens
+change_opens c leaves group next status there may shows = record {
+  two = are_two leaves group next there may;
+  reads = reads_next leaves group next there may c status shows;
+  room = λ d is member. has_room_still leaves group next there may c d (shows.room d is) member;
 }
 
 pub statuses_leave_open : StatusesLeaveOpen
 statuses_leave_open old new group next there written same within opened = subst (λ (c : Contents). IsOpenTo c group next written) (sym same) (record {
   two = opened.two;
   reads = opened.reads;
-  room = λ d is. opened.room d (within d is);
+  room = λ d is member. opened.room d (within d is) member;
 })
 
 -- ---- its status
@@ -261,8 +294,11 @@ module _ (group next : Descriptor) (status : Status) (there written : Disks) (st
   abbrev change : DescriptorsChange there next_shown (contents_of old) (contents_of new)
   change = changed group next status there stamp homes framed old whole holds may frames reads later new stands.changes
 
-  shows_next : ShowsCommitted (contents_of new) next status written
-  shows_next = turn_is_committed (contents_of new) group next written written next_shown status holds.shows.stands (images_within new) (record {
+  parts : (d : ℕ) → IsTrue (members_among next written d) → IsTrue (written d) × IsTrue (is_member next d)
+  parts d is = and_parts (written d) (is_member next d) is
+
+  shows_next : ShowsCommitted (contents_of new) next status (members_among next written)
+  shows_next = turn_is_committed (contents_of new) group next written (members_among next written) next_shown status holds.shows.stands (images_within new) (record {
     two = may.opened.two;
     value = refl;
     finds = finds_two;
@@ -271,47 +307,81 @@ module _ (group next : Descriptor) (status : Status) (there written : Disks) (st
     enough = enough;
     enough_too = enough_too;
     reads = can_read group next status there stamp homes framed old whole holds may frames reads later new stands.changes;
-    among = λ d is. is;
+    among = λ d is. (parts d is).0;
     room = λ d is.
-        let p = places_of d is in
+        let p = places_of d (parts d is).0 (parts d is).1 in
         room_same group next status there stamp homes framed old whole holds may frames reads later new stands.changes d ∙ p;
     own = holds.shows.own ∙ may.opened.two.id;
     committed = holds.shows.committed;
-    stated = λ d is. ap (λ (s : ℕ → Option (Stamped Status)). s d) (ap (λ (c : Contents). c.status) change.rest) ∙ holds.shows.stated d (stands.targets d is);
+    stated = λ d is. ap (λ (s : ℕ → Option (Stamped Status)). s d) (ap (λ (c : Contents). c.status) change.rest) ∙ holds.shows.stated d (stands.targets d (parts d is).0);
     last = λ d r shown its. holds.shows.last d r (sym (ap (λ (s : ℕ → Option (Stamped Status)). s d) (ap (λ (c : Contents). c.status) change.rest)) ∙ shown) (its ∙ sym may.opened.two.id);
   })
     where
-      places_of : (d : ℕ) → IsTrue (written d) → has_room (contents_of old) d next ≡ true
-      places_of d is = may.opened.room d (stands.targets d is)
+      places_of : (d : ℕ) → IsTrue (written d) → IsTrue (is_member next d) → has_room (contents_of old) d next ≡ true
+      places_of d is member = may.opened.room d (stands.targets d is) member
 
-  -- ---- its slots
+-- ---- its slots
 
-  both_before : (d : ℕ) → IsTrue (there d) → BothBefore (on_disk one d) (old.sector d)
-  both_before d is = later_may_go one (next_stamp stamp) old d whole holds.stamps later (holds.there d is)
+module _ (group next : Descriptor) (status : Status) (there written : Disks) (stamp : Stamp) (homes slots : Homes) (framed : Framed) (old new : Image) (whole : IsWholeImage old) (holds : HoldsCommitted old group status there stamp homes)
+    (may : MayTurnTo (contents_of old) group next there) (frames : Frames kind.Descriptor framed) (reads : descriptor_of framed.content ≡ Ok next) (later : IsNoLater (next_stamp stamp) framed.stamp)
+    (stands : StandsWritten (write_of kind.Descriptor framed there homes) written homes slots old new) where
+  abbrev to_slots : RecordWrite
+  to_slots = write_of kind.Descriptor framed there homes
+
+  both_before : (d : ℕ) → IsTrue (there d) → BothBefore (on_disk to_slots d) (old.sector d)
+  both_before d is = later_may_go to_slots (next_stamp stamp) old d whole holds.stamps later (holds.there d is)
 
   module _ (d : ℕ) (is : IsTrue (written d)) where
     on : IsTrue (there d)
     on = stands.targets d is
 
-    torn : IsTornWrite (on_disk one d) (old.sector d) (new.sector d)
-    torn s = ⊎_elim (λ same. inl same) (λ (of : IsOfRecord one d s (new.sector d s)). inr of.its) (stands.changes.each d s)
+    abbrev second_slot : ℕ
+    second_slot = if second_slots kind.Descriptor homes d then 1 else 0
+
+    torn : IsTornWrite (on_disk to_slots d) (old.sector d) (new.sector d)
+    torn s = ⊎_elim (λ same. inl same) (λ (of : IsOfRecord to_slots d s (new.sector d s)). inr of.its) (stands.changes.each d s)
+
+    -- the record went to its slot
+    turned_there : ((second_slot ≡ 0) × (slot_for descriptor_of kind.Descriptor (new.sector d) ≡ 1)) ⊎ ((second_slot ≡ 1) × (slot_for descriptor_of kind.Descriptor (new.sector d) ≡ 0))
+    turned_there = turned (on_disk to_slots d) (old.sector d) (new.sector d) frames (place_below (second_slots kind.Descriptor homes d)) torn Descriptor descriptor_of next reads (both_before d on) (stands.stands d is)
+
+    older : slot_for descriptor_of kind.Descriptor (new.sector d) ≡ (if second_slots kind.Descriptor homes d then 0 else 1)
+    older = by (second_slots kind.Descriptor homes d) turned_there
+      where
+        by : (t : Bool) → ((◌≡◌ {A = ℕ} (if t then 1 else 0) 0) × (slot_for descriptor_of kind.Descriptor (new.sector d) ≡ 1)) ⊎ ((◌≡◌ {A = ℕ} (if t then 1 else 0) 1) × (slot_for descriptor_of kind.Descriptor (new.sector d) ≡ 0))
+            → slot_for descriptor_of kind.Descriptor (new.sector d) ≡ (if t then 0 else 1)
+        by true (inl is) = let wrong = is.0 in absurd (omega (arith, wrong))
+        by true (inr is) = is.1
+        by false (inl is) = is.1
+        by false (inr is) = let wrong = is.0 in absurd (omega (arith, wrong))
 
     own_spared : next_slot kind.Descriptor slots d ≡ slot_for descriptor_of kind.Descriptor (new.sector d)
     own_spared = ap (λ (t : Bool). if t then 1 else 0) (stands.flips.own d ∙ ap (λ (t : Bool). if t then not (second_slots kind.Descriptor homes d) else second_slots kind.Descriptor homes d) is)
         ∙ place_turns (second_slots kind.Descriptor homes d) (slot_for descriptor_of kind.Descriptor (new.sector d))
-        (turned (on_disk one d) (old.sector d) (new.sector d) frames (place_below (second_slots kind.Descriptor homes d)) torn Descriptor descriptor_of next reads (both_before d on) (stands.stands d is))
+        turned_there
 
     other_spared : next_slot kind.Status slots d ≡ slot_for status_of kind.Status (new.sector d)
     other_spared = ap (λ (t : Bool). if t then 1 else 0) (stands.flips.other kind.Status (λ e. differ (sym e)) d) ∙ (holds.homes d on).status
-        ∙ sym (other_kind (on_disk one d) (old.sector d) (new.sector d) frames (place_below (second_slots kind.Descriptor homes d)) torn status_of kind.Status (λ e. differ (sym e)))
+        ∙ sym (other_kind (on_disk to_slots d) (old.sector d) (new.sector d) frames (place_below (second_slots kind.Descriptor homes d)) torn status_of kind.Status (λ e. differ (sym e)))
 
 pub turn_is_held : TurnIsHeld
 turn_is_held group next status there written stamp homes slots framed old new whole holds may frames reads later stands enough enough_too = record {
   shows = shows_next group next status there written stamp homes slots framed old new whole holds may frames reads later stands enough enough_too;
   stamps = record_is_before_next (write_of kind.Descriptor framed there homes) (next_stamp framed.stamp) old new frames (before_next framed.stamp) stands.changes (later_is_after_too (next_stamp stamp) framed.stamp old later holds.stamps);
-  there = λ d is. room-same old new stands.changes.same d ∙ holds.there d (stands.targets d is);
+  there = λ d is. room-same old new stands.changes.same d ∙ holds.there d (stands.targets d (reached d is));
   homes = λ d is. record {
-    descriptor = own_spared group next status there written stamp homes slots framed old new whole holds may frames reads later stands enough enough_too d is;
-    status = other_spared group next status there written stamp homes slots framed old new whole holds may frames reads later stands enough enough_too d is;
+    descriptor = own_spared group next status there written stamp homes slots framed old new whole holds may frames reads later stands d (reached d is);
+    status = other_spared group next status there written stamp homes slots framed old new whole holds may frames reads later stands d (reached d is);
   };
+}
+  where
+    reached : (d : ℕ) → IsTrue (members_among next written d) → IsTrue (written d)
+    reached d is = (and_parts (written d) (is_member next d) is).0
+
+pub turn_is_shown : TurnIsShown
+turn_is_shown group next status there written stamp homes slots framed old new whole holds may frames reads later stands d is = record {
+  record_is = as_read (write_of kind.Descriptor framed there homes) next;
+  value = refl;
+  shown = stand_there group next status there stamp homes framed old whole holds may frames reads later new stands.changes written slots stands d is;
+  older = older group next status there written stamp homes slots framed old new whole holds may frames reads later stands d is;
 }

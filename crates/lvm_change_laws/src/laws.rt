@@ -1,6 +1,6 @@
 //! Laws of a change of members. Each call does nothing: its contract is the law.
 ghost use Rattle.lvm_change_laws.specs.Turning.{ValidAreTwo, TurnKeeps, StateTurnKeeps, TurnIsDone, ReadsAreTwo};
-ghost use Rattle.lvm_change_laws.specs.Rule.{RuleOpens, StatusesLeaveOpen, RerowedMayFollow, TurnWriteKeeps, TurnIsHeld};
+ghost use Rattle.lvm_change_laws.specs.Rule.{RuleIsChange, ChangeOpens, StatusesLeaveOpen, RerowedMayFollow, TurnWriteKeeps, TurnIsHeld, TurnIsShown};
 ghost use Rattle.lvm_change_laws.specs.Committed.{CommittedIsRead, CommittedServes, TurnIsCommitted, ErasingKeeps};
 ghost use Rattle.lvm_change_laws.specs.Examples.{ThirdsMayBeErased};
 
@@ -26,13 +26,16 @@ pub fn erasing_keeps()
     ensures { ErasingKeeps }
 {}
 
-/// A rule of votes may change, or the size of a group: while the next descriptor is written what was kept is kept, and once it stands it is the committed one.
-pub fn rules_may_change()
-    ensures opens { RuleOpens }
+/// A rule of votes may change, or the size of a group, or members may leave it: while the next descriptor is written what was kept is kept, and once it stands it
+/// is the committed one.
+pub fn groups_may_change()
+    ensures rule { RuleIsChange }
+    ensures opens { ChangeOpens }
     ensures stays { StatusesLeaveOpen }
     ensures follows { RerowedMayFollow }
     ensures keeps { TurnWriteKeeps }
     ensures held { TurnIsHeld }
+    ensures shown { TurnIsShown }
 {}
 
 /// There is a group that a disk has left which may lose its records: of three members that were reduced to two, with quorum checking or without.

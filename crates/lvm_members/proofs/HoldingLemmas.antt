@@ -1,25 +1,26 @@
 -- The disks go on holding what a session says once its rule of votes or its size has changed, and each logical partition keeps a fresh copy.
-use Rattle.std.proofs.Common.{◌≡◌, inl, inr, ⊎_elim, ℕ, List, None, refl, sym, ◌∙◌, ap, subst}
+use Rattle.std.proofs.Common.{◌≡◌, inl, inr, ⊎_elim, ℕ, List, [], None, refl, sym, ◌∙◌, ap, subst}
+use Rattle.std.proofs.lemmas.Bool.{false≢true}
+use Rattle.lvm_num.specs.Buffer.{Sector}
 use Rattle.lvm_num.specs.declared.descriptor.LvRow.{LvRow}
 use Rattle.lvm_num.specs.declared.descriptor.Descriptor.{Descriptor}
 use Rattle.lvm_num.specs.Descriptor.{is_member, volume_of}
-use Rattle.lvm_num.specs.DescriptorBytes.{descriptor_bytes}
 use Rattle.lvm_status.specs.passed.Names.{IsLeftIn}
 use Rattle.lvm_write.specs.Written.{KeepsShelf}
 use Rattle.lvm_commit.specs.LawsOfVolumes.{IsOnlyGroupOn}
-use Rattle.lvm_commit.specs.Settling.{there, IsOfCommit, MarksLeft, NoneIsLeft}
+use Rattle.lvm_commit.specs.Settling.{there, MarksLeft, NoneIsLeft}
 use Rattle.lvm_commit.proofs.AmongLemmas.{one_place}
 use Rattle.lvm_commit.proofs.SettlingLemmas.Chaining.{keeps_wider}
 use Rattle.lvm_session.specs.State.{Core, State, is_there}
 use Rattle.lvm_core.specs.Committing.{HasStated}
 use Rattle.lvm_core.specs.Leaves.{IsOfCommand, NoPartition, MayBeFound}
 use Rattle.lvm_change_laws.specs.Rule.{MayChangeRule}
-use Rattle.lvm_turnover.specs.Changing.{ChangeLeaves}
+use Rattle.lvm_turnover.specs.Changing.{IsNext, IsOfChange, ChangeLeaves}
 use Rattle.lvm_volumes.specs.Endings.{StillHeld, KeepsFresh}
 use Rattle.lvm_volumes.proofs.EndingsLemmas.Fresh.{HasOnePlaceEach, no_copy, volume_stays}
 use Rattle.lvm_volumes.proofs.EndingsLemmas.Notes.{command_spares, still_missing, notes_stay}
 
-module _ (next : Descriptor) (p q : ℕ) (old new : State) (rule : MayChangeRule old.core.descriptor next (is_there old.core)) (left : MarksLeft next old.core.status new.core.status) (leaves : ChangeLeaves next p q old new) (done : HasStated next old new) where
+module _ (next : Descriptor) (p q : ℕ) (old new : State) (rule : MayChangeRule old.core.descriptor next (is_there old.core)) (left : MarksLeft next old.core.status new.core.status) (leaves : ChangeLeaves (IsNext next) [] [] p q old new) (done : HasStated next old new) where
   abbrev was : Descriptor
   was = old.core.descriptor
 
@@ -45,8 +46,12 @@ module _ (next : Descriptor) (p q : ℕ) (old new : State) (rule : MayChangeRule
       how
 
   writes : KeepsShelf (is_there old.core) (IsOfCommand (λ k. k ≡ next) NoPartition old new) old.device new.device
-  writes = keeps_wider (is_there old.core) (is_there old.core) (IsOfCommit (descriptor_bytes next) old.core.status new.core.status) (IsOfCommand (λ k. k ≡ next) NoPartition old new) old.device new.device (λ d off. off)
-      (λ d s value it. inr (inl (next, refl, it))) leaves.writes
+  writes = keeps_wider (is_there old.core) (is_there old.core) (IsOfChange (IsNext next) [] [] old new) (IsOfCommand (λ k. k ≡ next) NoPartition old new) old.device new.device (λ d off. off) as_command leaves.writes
+    where
+      as_command : (d s : ℕ) (value : Sector) → IsOfChange (IsNext next) [] [] old new d s value → IsOfCommand (λ k. k ≡ next) NoPartition old new d s value
+      as_command d s value (inl it) = inl it
+      as_command d s value (inr (inl it)) = inr (inl it)
+      as_command d s value (inr (inr it)) = absurd (false≢true it.0)
 
   members : (d : ℕ) → is_member new.core.descriptor d ≡ is_member was d
   members d = ap (λ (g : Descriptor). is_member g d) now ∙ ap (λ (g : Descriptor). is_member g d) rule.differs
@@ -57,7 +62,7 @@ module _ (next : Descriptor) (p q : ℕ) (old new : State) (rule : MayChangeRule
   pub rule_still : StillHeld old new
   rule_still = record {
     held = done.held;
-    notes = notes_stay (is_there old.core) (IsOfCommand (λ k. k ≡ next) NoPartition old new) (command_spares (λ k. k ≡ next) NoPartition old new) old new writes (still_missing old new members leaves.status.stays) (ap (λ (k : Core). k.cache) done.is);
+    notes = notes_stay (is_there old.core) (IsOfCommand (λ k. k ≡ next) NoPartition old new) (command_spares (λ k. k ≡ next) NoPartition old new) old new writes (still_missing old new members (λ d is. leaves.status.stays d refl is)) (ap (λ (k : Core). k.cache) done.is);
     only = λ held only. subst (λ (n : ℕ). IsOnlyGroupOn new.device n) (sym (ap (λ (g : Descriptor). g.id) now ∙ same_id)) (λ image may other k is. ⊎_elim
         (λ (before : MayBeFound old.device other k). only before.0 before.1 other k before.2)
         (λ (its : (other ≡ k.id) × (k ≡ next)). its.0 ∙ ap (λ (g : Descriptor). g.id) its.1 ∙ same_id)

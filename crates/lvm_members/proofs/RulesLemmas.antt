@@ -3,7 +3,6 @@ use Rattle.std.proofs.Common.{◌≡◌, inl, inr, ⊎_elim, ℕ, ◌++◌, fals
 use Rattle.std.specs.Prelude.{Result, Ok, Err, IsTrue, IsFalse, IfErr}
 use Rattle.std.proofs.lemmas.Bool.{false≢true}
 use Rattle.lvm_num.specs.declared.descriptor.Descriptor.{Descriptor}
-use Rattle.lvm_num.specs.DescriptorBytes.{descriptor_bytes}
 use Rattle.lvm_num.specs.Disks.{Disks}
 use Rattle.lvm_num.specs.Votes.{votes_in, total_votes, is_enough_to_write}
 use Rattle.lvm_disk.specs.Device.{image_of}
@@ -14,7 +13,7 @@ use Rattle.lvm_status.specs.Update.{members_there}
 use Rattle.lvm_commit.specs.passed.Names.{SpanGoesOn}
 use Rattle.lvm_kept.specs.Moments.{Moment}
 use Rattle.lvm_commit.specs.LawsOfVolumes.{VolumesServe}
-use Rattle.lvm_commit.specs.Settling.{there, IsOfCommit}
+use Rattle.lvm_commit.specs.Settling.{there}
 use Rattle.lvm_commit.proofs.SettlingLemmas.Chaining.{keeps_wider}
 use Rattle.lvm_write.proofs.WrittenLemmas.Writing.{if_told}
 use Rattle.lvm_core.specs.declared.fault.CommitFault.{CommitFault}
@@ -23,8 +22,8 @@ use Rattle.lvm_core.specs.Committing.{CommitEnds, HasGoneOff, HasStated, LetsCom
 use Rattle.lvm_core.specs.Leaves.{IsOfCommand, IsHeldSince, NoPartition, Leaves, committing}
 use Rattle.lvm_session.specs.State.{Core, State, is_there, moment_of}
 use Rattle.lvm_core.proofs.CommittingLemmas.Settled.{there_is}
-use Rattle.lvm_turnover.specs.Changing.{ChangeEnds, ChangeLeaves, HasGoneOffBy}
-use Rattle.lvm_volumes.proofs.Leaving.{leaves_none}
+use Rattle.lvm_turnover.specs.Changing.{ChangeEnds, IsNext, IsOfChange, ChangeLeaves, HasGoneOffBy, among}
+use Rattle.lvm_volumes.proofs.Leaving.{leaves_none, there_before}
 use Rattle.lvm_volume_plan.specs.PlannedVolume.{AreOfOneGroup}
 use Rattle.lvm_members.specs.Commands.{IsOfRecords, IsAnswerOf, IfOn, MayBeChanged, RefusesChange, RuleGives}
 use Rattle.lvm_members.specs.declared.fault.RuleFault.{RuleFault}
@@ -32,17 +31,18 @@ use Rattle.lvm_members.specs.declared.fault.RuleFault.TheVariants as fault
 
 -- ---- a commit as a change
 
-as_change : (next : Descriptor) (p q : ℕ) (old new : State) → Leaves (committing next) p q old new → ((run : ℕ) (first : Moment) → IsHeldSince run first old → SpanGoesOn run first (moment_of old) (moment_of new)) → ChangeLeaves next p q old new
+as_change : (next : Descriptor) (p q : ℕ) (old new : State) → Leaves (committing next) p q old new → ((run : ℕ) (first : Moment) → IsHeldSince run first old → SpanGoesOn run first (moment_of old) (moment_of new)) → ChangeLeaves (IsNext next) [] [] p q old new
 as_change next p q old new leaves spans = record {
-  writes = keeps_wider (is_there old.core) (is_there old.core) (IsOfCommand (λ k. k ≡ next) NoPartition old new) (IsOfCommit (descriptor_bytes next) old.core.status new.core.status) old.device new.device (λ d off. off)
-      (λ d s value is. ⊎_elim (λ states. (states.0, inr states.1, states.2)) (λ rest. ⊎_elim (λ its. subst (λ (k : Descriptor). IsOfCommit (descriptor_bytes k) old.core.status new.core.status d s value) its.1 its.2) (λ zeros. absurd zeros.1) rest) is) leaves.writes;
+  writes = keeps_wider (is_there old.core) (is_there old.core) (IsOfCommand (λ k. k ≡ next) NoPartition old new) (IsOfChange (IsNext next) [] [] old new) old.device new.device (λ d off. off)
+      (λ d s value is. ⊎_elim (λ states. inl states) (λ rest. ⊎_elim (λ its. inr (inl its)) (λ zeros. absurd zeros.1) rest) is) leaves.writes;
   status = record {
     group = inl leaves.status.group;
-    stale = λ pp. leaves.status.stale pp (λ none. none);
+    stale = λ pp off. leaves.status.stale pp (λ none. none);
     further = λ pp is. ⊎_elim (λ was. inl was) (λ rest. ⊎_elim (λ none. absurd none) (λ behind. inr behind) rest) (leaves.status.further pp is);
     dirty = λ lv. leaves.status.dirty lv (λ none. none);
-    stays = leaves.status.stays;
+    stays = λ d off. leaves.status.stays d;
     lost = leaves.status.lost;
+    fewer = λ d is. there_before old.core.status.group old.core.status.wanted new.core.status.wanted d (leaves.status.stays d) (subst (λ (g : Descriptor). IsTrue (members_there g new.core.status.wanted d)) leaves.status.group is);
   };
   numbers = (let most = leaves.numbers.most in record { epoch = leaves.numbers.epoch; rises = leaves.numbers.rises; most = omega (arith, most) });
   history = leaves.history;
@@ -68,7 +68,7 @@ module _ (next : Descriptor) (p q : ℕ) (old new : State) (same : next ≡ old.
     served = λ row inside among. absurd (false≢true among);
   })
 
-  pub same_leaves : Leaves (committing next) p q old new → ChangeLeaves next p q old new
+  pub same_leaves : Leaves (committing next) p q old new → ChangeLeaves (IsNext next) [] [] p q old new
   same_leaves leaves = as_change next p q old new leaves (λ run first held. leaves.spans run first held ((λ n. false), serves run first))
 
   module _ (leaves : Leaves (committing next) p q old new) (group : AreOfOneGroup old.core) where
@@ -100,7 +100,7 @@ module _ (next : Descriptor) (p q : ℕ) (old new : State) (same : next ≡ old.
 
 -- ---- nothing
 
-pub leaves_here : (next : Descriptor) (p : ℕ) (s : State) → ChangeLeaves next p p s s
+pub leaves_here : (next : Descriptor) (p : ℕ) (s : State) → ChangeLeaves (IsNext next) [] [] p p s s
 leaves_here next p s = as_change next p p s s (leaves_none (committing next) p s) (λ run first held span. span)
 
 pub refused_gives : (next : Descriptor) (p : ℕ) (s : State) (why : RuleFault) → RefusesChange next s.core why → RuleGives next p s s (Err why)

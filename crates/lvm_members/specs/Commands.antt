@@ -10,7 +10,7 @@ use Rattle.lvm_session.specs.State.{Core, State, is_there, votes_there}
 use Rattle.lvm_change.specs.Rule.{IsRefused, as_big}
 use Rattle.lvm_change_laws.specs.Rule.{MayChangeRule}
 use Rattle.lvm_turnover.specs.Changing.{ChangeEnds}
-use Rattle.lvm_turnover.specs.Turning.{IsReadyFor}
+use Rattle.lvm_turnover.specs.Turning.{IsReady}
 use Rattle.lvm_volume_plan.specs.Faults.{TakesCommands, HasSpareRoom}
 use Rattle.lvm_volume_plan.specs.PlannedVolume.{AreOfOneGroup}
 use Rattle.lvm_members.specs.declared.fault.RuleFault.{RuleFault}
@@ -56,7 +56,7 @@ IsRefusedFor next why old new = (new ≡ old) × RefusesChange next old.core why
 
 -- a turn to it, or where nothing differs the descriptor itself once more
 abbrev pub IsPlanFor : Descriptor → Core → Plan → Type 0
-IsPlanFor next core (plan.Turn change) = AreOfOneGroup core × MayBeChanged next core × (change.records.next ≡ next) × IsReadyFor core.status.committed change
+IsPlanFor next core (plan.Turn change) = AreOfOneGroup core × MayBeChanged next core × (change.next ≡ next) × IsReady change
 IsPlanFor next core (plan.Same prepared) = AreOfOneGroup core × MayBeChanged next core × (prepared ≡ next) × (next ≡ core.descriptor)
 
 -- ---- what is answered

@@ -1,10 +1,10 @@
 //! Quorum checking of a group is switched on or off, or it becomes big.
-ghost use Rattle.std.specs.Prelude.{◌≡◌, IfErr};
+ghost use Rattle.std.specs.Prelude.{◌≡◌, [], IfErr};
 ghost use Rattle.lvm_core.specs.State.{state_of};
 ghost use Rattle.lvm_core.specs.Settled.{IsSettled};
 ghost use Rattle.lvm_change.specs.Rule.{with_quorum, as_big};
-ghost use Rattle.lvm_turnover.specs.Changing.{ChangeLeaves};
-ghost use Rattle.lvm_turnover.specs.Turning.{IsReadyFor};
+ghost use Rattle.lvm_turnover.specs.Changing.{IsNext, ChangeLeaves};
+ghost use Rattle.lvm_turnover.specs.Turning.{IsReady};
 ghost use Rattle.lvm_volume_plan.specs.PlannedVolume.{AreOfOneGroup};
 ghost use Rattle.lvm_volume_plan.specs.Faults.{TakesCommands};
 ghost use Rattle.lvm_volumes.specs.Endings.{StillHeld, KeepsFresh};
@@ -46,7 +46,7 @@ pub fn set_quorum<S: Shelf>(
     ensures held { IfOn result.answer (StillHeld (state_of S.device driver) (state_of S.device result.driver)) }
     ensures fresh { IfOn result.answer (KeepsFresh (state_of S.device driver) (state_of S.device result.driver)) }
     // whatever the answer
-    ensures leaves { ChangeLeaves (with_quorum on driver.1.descriptor) patience.old.left patience.new.left (state_of S.device driver) (state_of S.device result.driver) }
+    ensures leaves { ChangeLeaves (IsNext (with_quorum on driver.1.descriptor)) [] [] patience.old.left patience.new.left (state_of S.device driver) (state_of S.device result.driver) }
 {
     match plan_quorum(alloc, &driver, on) {
         Ok(Plan::Turn(next)) => by_turn(driver, next, patience),
@@ -74,7 +74,7 @@ pub fn make_big<S: Shelf>(
     ensures held { IfOn result.answer (StillHeld (state_of S.device driver) (state_of S.device result.driver)) }
     ensures fresh { IfOn result.answer (KeepsFresh (state_of S.device driver) (state_of S.device result.driver)) }
     // whatever the answer
-    ensures leaves { ChangeLeaves (as_big driver.1.descriptor) patience.old.left patience.new.left (state_of S.device driver) (state_of S.device result.driver) }
+    ensures leaves { ChangeLeaves (IsNext (as_big driver.1.descriptor)) [] [] patience.old.left patience.new.left (state_of S.device driver) (state_of S.device result.driver) }
 {
     if driver.descriptor().big {
         let answer = stays(&driver);
@@ -107,14 +107,14 @@ fn stays<S: Shelf>(driver: &CommandDriver<S>) -> Result<(), RuleFault>
 fn by_turn<S: Shelf>(driver: CommandDriver<S>, next: Change, patience: &mut Patience) -> Changed<S>
     requires settled { IsSettled driver.1 }
     requires group { AreOfOneGroup driver.1 }
-    requires may { MayBeChanged next.records.next driver.1 }
-    requires ready { IsReadyFor driver.1.status.committed next }
-    ensures gives { RuleGives next.records.next patience.old.left (state_of S.device driver) (state_of S.device result.driver) result.answer }
+    requires may { MayBeChanged next.next driver.1 }
+    requires ready { IsReady next }
+    ensures gives { RuleGives next.next patience.old.left (state_of S.device driver) (state_of S.device result.driver) result.answer }
     ensures settled { IfOn result.answer (IsSettled result.driver.1) }
     ensures held { IfOn result.answer (StillHeld (state_of S.device driver) (state_of S.device result.driver)) }
     ensures fresh { IfOn result.answer (KeepsFresh (state_of S.device driver) (state_of S.device result.driver)) }
     // whatever the answer
-    ensures leaves { ChangeLeaves next.records.next patience.old.left patience.new.left (state_of S.device driver) (state_of S.device result.driver) }
+    ensures leaves { ChangeLeaves (IsNext next.next) [] [] patience.old.left patience.new.left (state_of S.device driver) (state_of S.device result.driver) }
 {
     let (driver, answer) = make_change(driver, next, patience);
     let told = answer_of(answer);
@@ -139,7 +139,7 @@ fn by_commit<S: Shelf>(
     ensures held { IfOn result.answer (StillHeld (state_of S.device driver) (state_of S.device result.driver)) }
     ensures fresh { IfOn result.answer (KeepsFresh (state_of S.device driver) (state_of S.device result.driver)) }
     // whatever the answer
-    ensures leaves { ChangeLeaves next patience.old.left patience.new.left (state_of S.device driver) (state_of S.device result.driver) }
+    ensures leaves { ChangeLeaves (IsNext next) [] [] patience.old.left patience.new.left (state_of S.device driver) (state_of S.device result.driver) }
 {
     let mut driver = driver;
     let answer = driver.commit(next, patience);

@@ -7,7 +7,7 @@ use Rattle.lvm_steps.specs.Moments.{RunBegins, Keeps}
 use Rattle.lvm_session.specs.State.{State, moment_of}
 use Rattle.lvm_session.specs.Sound.{IsSound}
 use Rattle.lvm_volume_plan.specs.passed.Names.{MayBeFound, IsSettled}
-use Rattle.lvm_members.specs.passed.Names.{with_quorum, as_big, ChangeLeaves}
+use Rattle.lvm_members.specs.passed.Names.{with_quorum, as_big, ChangeLeaves, IsNext}
 use Rattle.lvm_volumes.specs.Endings.{StillHeld, KeepsFresh}
 use Rattle.lvm_members.specs.declared.fault.RuleFault.{RuleFault}
 use Rattle.lvm_members.specs.Commands.{RuleGives, BigGives, IfOn}
@@ -20,7 +20,7 @@ pub record IsChangedTo (next : Descriptor) (before after : ℕ) (old new : State
   pub on : IfOn answer (IsSettled new.core)
   pub still : IfOn answer (StillHeld old new)
   pub fresh : IfOn answer (KeepsFresh old new)
-  pub leaves : ChangeLeaves next before after old new
+  pub leaves : ChangeLeaves (IsNext next) [] [] before after old new
 
 -- ---- what stands
 

@@ -33,7 +33,7 @@ use Rattle.lvm_volume_plan.specs.declared.new_volume.NewVolume.{NewVolume}
 use Rattle.lvm_line.specs.passed.Group.{NewGroup, new_group, MkvgRefuses, IfShown, HasGroup}
 use Rattle.lvm_line.specs.passed.GroupLines.{IsBetween, patience_of_line, Asks, IsAlone, OfGroup, OfRequests, Role, IsStuck, ScriptState, IsTimely, StandsAlone, log_with, Reply, IsLeftByCall, MkvgDoes, NoMemoryForLine, NoMkvgWhileOn, Makes, asked_for, itself, outcome_of}
 use Rattle.lvm_line.specs.Lines.{LineDoes, role_of}
-use Rattle.lvm_line.specs.passed.Members.{as_big, with_quorum}
+use Rattle.lvm_line.specs.passed.Members.{IsNext, as_big, with_quorum}
 use Rattle.lvm_line.specs.passed.VolumeLines.{BecomesBig, BusyChvgBig, BusyChvgQuorum, ChvgBigDoes, ChvgBigFails, ChvgQuorumDoes, ChvgQuorumFails, IsChangeDone, NoGroupForChvgBig, NoGroupForChvgQuorum, SwitchesQuorum, UndrainedChvgBig, UndrainedChvgQuorum}
 use Rattle.lvm_line.specs.passed.VolumeLines.{Drains, IsDone, MklvDoes, RmlvDoes, NoGroupForMklv, BusyMklv, UndrainedMklv, MakesVolume, MklvFails, NoGroupForRmlv, BusyRmlv, UndrainedRmlv, NoVolumeForRmlv, RemovesVolume, RmlvFails, wanted, MklvcopyDoes, NoGroupForMklvcopy, BusyMklvcopy, UndrainedMklvcopy, NoVolumeForMklvcopy, AddsCopies, MklvcopyFails, RmlvcopyDoes, NoGroupForRmlvcopy, BusyRmlvcopy, UndrainedRmlvcopy, NoVolumeForRmlvcopy, RemovesCopies, RmlvcopyFails, SplitlvcopyDoes, NoGroupForSplitlvcopy, BusySplitlvcopy, UndrainedSplitlvcopy, NoVolumeForSplitlvcopy, SplitsVolume, SplitlvcopyFails}
 use Rattle.lvm_line.proofs.passed.Tie.{path_frames}
@@ -216,28 +216,28 @@ module _ (log : Log) (old new : ScriptState) (answer : Reply) (shelf : IsShelf o
 
     -- ---- `chvg`
 
-    changed_one : {Gives : State → State → Type 0} {over : Bool} (next : Descriptor) (core : Core) (left : ℕ) (mid : State) → old.session ≡ Some core → Drains core old left mid → next.id ≡ mid.core.descriptor.id → IsChangeDone next Gives over mid old new
-        → FindsOneGroup now
-    changed_one next core left mid some drains own done = no_new_one was now (λ id k it. ⊎_elim
+    changed_one : {Gives : State → State → Type 0} {over : Bool} {joins erases : List ℕ} (N : Descriptor → Type 0) (core : Core) (left : ℕ) (mid : State) → old.session ≡ Some core → Drains core old left mid
+        → ((k : Descriptor) → N k → k.id ≡ mid.core.descriptor.id) → IsChangeDone N joins erases Gives over mid old new → FindsOneGroup now
+    changed_one N core left mid some drains own done = no_new_one was now (λ id k it. ⊎_elim
         (λ (before : MayBeFound was id k). (k, before))
         (λ found.
-        let same : id ≡ core.descriptor.id = found.0 ∙ ap (λ (d : Descriptor). d.id) found.1 ∙ own ∙ ap (λ (d : Descriptor). d.id) (path_frames drains.runs).keeps.descriptor in
+        let same : id ≡ core.descriptor.id = found.0 ∙ own k found.1 ∙ ap (λ (d : Descriptor). d.id) (path_frames drains.runs).keeps.descriptor in
         (core.descriptor, subst (λ (n : ℕ). MayBeFound was n core.descriptor) (sym same) (found_before log.run old new between named stood told core left mid some drains)))
-        (change_finds log.run old new between named stood next core left mid some drains done id k it)) one
+        (change_finds log.run old new between named stood N core left mid some drains done id k it)) one
 
     chvg_quorum_one : (on : Bool) (name : List ℕ) → ChvgQuorumDoes on name old new answer → FindsOneGroup now
     chvg_quorum_one on name (NoGroupForChvgQuorum none is) = same_one is.1
     chvg_quorum_one on name (BusyChvgQuorum mine busy is) = same_one is.1
     chvg_quorum_one on name (UndrainedChvgQuorum core why some mine un) = nothing_one was now (undrained_nothing log.run old new between named stood core why answer some un) one
-    chvg_quorum_one on name (SwitchesQuorum core left mid some mine drains done is) = changed_one (with_quorum on mid.core.descriptor) core left mid some drains refl done
-    chvg_quorum_one on name (ChvgQuorumFails core left mid why some mine drains done is) = changed_one (with_quorum on mid.core.descriptor) core left mid some drains refl done
+    chvg_quorum_one on name (SwitchesQuorum core left mid some mine drains done is) = changed_one (IsNext (with_quorum on mid.core.descriptor)) core left mid some drains (λ k is. ap (λ (d : Descriptor). d.id) is) done
+    chvg_quorum_one on name (ChvgQuorumFails core left mid why some mine drains done is) = changed_one (IsNext (with_quorum on mid.core.descriptor)) core left mid some drains (λ k is. ap (λ (d : Descriptor). d.id) is) done
 
     chvg_big_one : (name : List ℕ) → ChvgBigDoes name old new answer → FindsOneGroup now
     chvg_big_one name (NoGroupForChvgBig none is) = same_one is.1
     chvg_big_one name (BusyChvgBig mine busy is) = same_one is.1
     chvg_big_one name (UndrainedChvgBig core why some mine un) = nothing_one was now (undrained_nothing log.run old new between named stood core why answer some un) one
-    chvg_big_one name (BecomesBig core left mid some mine drains done is) = changed_one (as_big mid.core.descriptor) core left mid some drains refl done
-    chvg_big_one name (ChvgBigFails core left mid why some mine drains done is) = changed_one (as_big mid.core.descriptor) core left mid some drains refl done
+    chvg_big_one name (BecomesBig core left mid some mine drains done is) = changed_one (IsNext (as_big mid.core.descriptor)) core left mid some drains (λ k is. ap (λ (d : Descriptor). d.id) is) done
+    chvg_big_one name (ChvgBigFails core left mid why some mine drains done is) = changed_one (IsNext (as_big mid.core.descriptor)) core left mid some drains (λ k is. ap (λ (d : Descriptor). d.id) is) done
 
   -- ---- another line
 

@@ -1,5 +1,6 @@
 -- What a change leaves, by what was written, what was wanted and what was entered.
-use Rattle.std.proofs.Common.{◌≡◌, ◌⊎◌, inr, ⊎_elim, ℕ, ◌<◌, ◌++◌, refl, sym, subst}
+use Rattle.std.proofs.Common.{◌≡◌, ◌⊎◌, inl, inr, ⊎_elim, ℕ, ◌<◌, List, [], ◌++◌, refl, sym, subst}
+use Rattle.lvm_num.proofs.Booleans.{second_fails}
 use Rattle.lvm_num.specs.declared.descriptor.Descriptor.{Descriptor}
 use Rattle.lvm_num.specs.DescriptorBytes.{descriptor_bytes}
 use Rattle.lvm_disk.specs.Device.{image_of}
@@ -14,18 +15,19 @@ use Rattle.lvm_write.specs.Written.{KeepsShelf}
 use Rattle.lvm_write.proofs.WrittenLemmas.Writing.{both_map, changes_more}
 use Rattle.lvm_commit.specs.LawsOfFinding.{FindsNoMoreOn}
 use Rattle.lvm_commit.specs.Settling.{IsOfCommit, SpendsNumbers}
+use Rattle.lvm_commit.proofs.SettlingLemmas.Chaining.{keeps_wider}
 use Rattle.lvm_session.specs.State.{State, moment_of, is_there}
 use Rattle.lvm_core.specs.Held.{IsHeld}
-use Rattle.lvm_core.specs.Committing.{StaysBehind}
+use Rattle.lvm_core.specs.Committing.{StaysBehind, is_in}
 use Rattle.lvm_core.specs.Leaves.{KeepsHistory, IsHeldSince}
 use Rattle.lvm_core.proofs.LeavesLemmas.{finds_next, keeps_same, keeps_cut as history_keeps_cut}
 use Rattle.lvm_core.proofs.CommittingLemmas.Spanning.{keeps_cut, calm_cut, path_falls}
-use Rattle.lvm_turnover.specs.Changing.{KeepsMarks, ChangeLeaves}
+use Rattle.lvm_turnover.specs.Changing.{IsNext, among, IsOfChange, KeepsMarks, LeavesWithin}
 
 -- What was written and wanted, what is kept and found, and what was waited.
-pub record Writes (next : Descriptor) (before after : ℕ) (old new : State) : Type 0 where
+pub record Writes (next : Descriptor) (erases : List ℕ) (before after : ℕ) (old new : State) : Type 0 where
   pub writes : KeepsShelf (is_there old.core) (IsOfCommit (descriptor_bytes next) old.core.status new.core.status) old.device new.device
-  pub status : KeepsMarks next old new
+  pub status : KeepsMarks (IsNext next) [] erases old new
   pub numbers : SpendsNumbers 3 old.core.status new.core.status
   pub kept : Path DeviceStep (λ d. IsHeld old.device old.core → StaysKept old.device d) old.device new.device
   pub finds : IsHeld old.device old.core → FindsNoMoreOn next old.device new.device
@@ -35,7 +37,7 @@ pub record Writes (next : Descriptor) (before after : ℕ) (old new : State) : T
 abbrev pub IsSameOrCut : Log → Log → Type 0
 IsSameOrCut was is = (is ≡ was) ⊎ (is ≡ cut_log was)
 
-module _ (next : Descriptor) (before after : ℕ) (old new : State) (w : Writes next before after old new) (log : IsSameOrCut old.core.history new.core.history) where
+module _ (next : Descriptor) (erases : List ℕ) (before after : ℕ) (old new : State) (w : Writes next erases before after old new) (log : IsSameOrCut old.core.history new.core.history) where
   by_history : (P : Log → Type 0) → P old.core.history → P (cut_log old.core.history) → P new.core.history
   by_history P same dark = ⊎_elim (λ is. subst P (sym is) same) (λ is. subst P (sym is) dark) log
 
@@ -61,14 +63,15 @@ module _ (next : Descriptor) (before after : ℕ) (old new : State) (w : Writes 
         its = it.2.its;
       })) by)) was
 
-  pub change_leaves : ChangeLeaves next before after old new
+  pub change_leaves : LeavesWithin 3 (IsNext next) [] erases before after old new
   change_leaves = record {
-    writes = w.writes;
+    writes = keeps_wider (is_there old.core) (among [] (among erases (is_there old.core))) (IsOfCommit (descriptor_bytes next) old.core.status new.core.status) (IsOfChange (IsNext next) [] erases old new) old.device new.device
+        (λ d off. second_fails (is_in erases d) (is_there old.core d) off) (λ d s value it. inr (inl (next, refl, it))) w.writes;
     status = w.status;
     numbers = w.numbers;
     history = by_history (λ (l : Log). KeepsHistory old.core.history l) (keeps_same old.core.history old.core.history refl) (history_keeps_cut old.core.history);
     spans = keeps;
-    finds = λ held id k is. finds_next (λ d. d ≡ next) old new _ w.writes.media next refl (w.finds held) held id k is;
+    finds = λ held id k is. finds_next (IsNext next) old new _ w.writes.media next refl (w.finds held) held id k is;
     calm = calm;
     behind = behind;
     falls = path_falls old.device new.device w.kept;

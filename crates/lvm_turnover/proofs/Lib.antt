@@ -2,8 +2,10 @@ pub mod BeginningLemmas
 pub mod LeavingLemmas
 pub mod LeftLemmas
 pub mod MarksLemmas
+pub mod OutLemmas
 pub mod OverLemmas
 pub mod PhaseLemmas
 pub mod SendingLemmas
+pub mod ShownLemmas
 pub mod StandingLemmas
 pub mod TurningLemmas

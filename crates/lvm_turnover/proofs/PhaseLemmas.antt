@@ -33,15 +33,15 @@ use Rattle.lvm_session.specs.State.{Core, State, state, is_there}
 use Rattle.lvm_core.specs.Held.{IsHeld}
 use Rattle.lvm_change.specs.declared.turn.Turn.{Turn}
 use Rattle.lvm_change.specs.declared.turn.Turned.{Turned}
-use Rattle.lvm_change.specs.Records.{IsTurnBy}
 use Rattle.lvm_change.specs.Turn.{HoldsBy, IsBefore, IsOfTurn, ComesBack, TurnGives}
 use Rattle.lvm_turnover.specs.declared.change.Change.{Change}
-use Rattle.lvm_turnover.specs.Turning.{MayTurnSession, after_turn, stamped_twice, unreached}
-use Rattle.lvm_turnover.proofs.BeginningLemmas.{next, session_there}
+use Rattle.lvm_turnover.specs.Changing.{IsNext}
+use Rattle.lvm_turnover.specs.Turning.{IsTurnBy, MayTurnSession, after_turn, disks_leaving, stamped_twice, unreached}
+use Rattle.lvm_turnover.proofs.BeginningLemmas.{next, session_there, copy_apart}
 use Rattle.lvm_turnover.proofs.LeavingLemmas.{Writes}
 use Rattle.lvm_turnover.proofs.MarksLemmas.{marks_kept}
 
-module _ (c : Change) (old : State) (may : MayTurnSession c old) (turn : Turn) (by : IsTurnBy c.records old.core.descriptor turn) (slots : Homes) (p q : ℕ) (m : Device) (t : Turned)
+module _ (c : Change) (old : State) (may : MayTurnSession c old) (turn : Turn) (by : IsTurnBy c old.core.descriptor turn) (slots : Homes) (p q : ℕ) (m : Device) (t : Turned)
     (gives : TurnGives turn (is_there old.core) old.core.status.stamp old.core.homes slots 0 p q old.device m t) where
   abbrev goal : Descriptor
   goal = next c old may
@@ -52,7 +52,7 @@ module _ (c : Change) (old : State) (may : MayTurnSession c old) (turn : Turn) (
   pub before_held : IsHeld old.device old.core → IsBefore turn (is_there old.core) stamp old.core.homes old.device
   before_held held = (
     old.core.status.committed,
-    subst (λ (g : Descriptor). IsRerowed g old.core.status.committed turn.told.now) (sym by.next) (subst (λ (x : Status). IsRerowed goal old.core.status.committed x) (sym by.told) may.ready.records.told),
+    subst (λ (g : Descriptor). IsRerowed g old.core.status.committed turn.told.now) (sym by.next) (subst (λ (x : Status). IsRerowed goal old.core.status.committed x) (sym by.told) may.ready.told),
     subst (λ (g : Descriptor). HoldsBy old.device g old.core.status.committed (is_there old.core) stamp old.core.homes) (sym by.was_is) held,
   )
 
@@ -72,7 +72,7 @@ module _ (c : Change) (old : State) (may : MayTurnSession c old) (turn : Turn) (
     of_commit d s value it = ⊎_elim
         (λ states. (
           it.write,
-          inr (record { kind = states.0; status = turn.told.now; own = ap (λ (x : Status). x.id) by.told ∙ may.ready.records.told.id ∙ ap (λ (x : Status). x.id) may.settled ∙ may.commit.settle.id; content = ap (λ (f : Framed). f.content) states.1 }),
+          inr (record { kind = states.0; status = turn.told.now; own = ap (λ (x : Status). x.id) by.told ∙ may.ready.told.id ∙ ap (λ (x : Status). x.id) may.settled ∙ may.commit.settle.id; content = ap (λ (f : Framed). f.content) states.1 }),
           (let seq = ap (λ (f : Framed). f.stamp.seq) states.1 in record {
             frames = it.frames;
             slots = it.slots;
@@ -103,14 +103,18 @@ module _ (c : Change) (old : State) (may : MayTurnSession c old) (turn : Turn) (
 
   -- ---- where the descriptor stays
 
+  abbrev erases : List ℕ
+  erases = disks_leaving c.leaving
+
   module _ (core : Core) (stamped : core.status.stamp ≡ after_turn stamp) (loses : OnlyLoses (stamped_twice old.core) core.status old.device m) (left : MarksLeft old.core.descriptor (stamped_twice old.core) core.status) where
     few : many_there core.status ≤ many_there old.core.status
     few = no_more_there (stamped_twice old.core) core.status loses.group loses.stays
 
-    pub turn_only : Writes goal p q old (state m core)
+    pub turn_only : Writes goal erases p q old (state m core)
     turn_only = record {
       writes = turn_writes core.status (let seq = ap (λ (x : Stamp). x.seq) stamped in omega (arith, seq));
-      status = marks_kept goal old.core.descriptor old (state m core) (stamped_twice old.core) (inl refl) (inl refl) (λ e. refl) (λ e. refl) refl (λ e. ap (λ (set : Disks). set e) (session_there c old may)) (session_there c old may) loses left;
+      status = marks_kept (IsNext goal) erases old.core.descriptor old (state m core) (stamped_twice old.core) (inl refl) (inl refl) (λ e off is. is) (λ e is. is) (λ e off is. is) (λ e is. is) refl (λ e is. subst (λ (set : Disks). IsTrue (set e)) (session_there c old may) is)
+          (session_there c old may) (copy_apart c old may) loses left;
       numbers = (let seq = ap (λ (x : Stamp). x.seq) stamped in let less = few in record { epoch = ap (λ (x : Stamp). x.epoch) stamped; rises = omega (arith, seq); most = omega (arith, seq, less) });
       kept = turn_kept;
       finds = turn_finds;
@@ -118,7 +122,7 @@ module _ (c : Change) (old : State) (may : MayTurnSession c old) (turn : Turn) (
     }
 
   -- no member was lost
-  pub turn_stopped : (core : Core) → core.status ≡ stamped_twice old.core → Writes goal p q old (state m core)
+  pub turn_stopped : (core : Core) → core.status ≡ stamped_twice old.core → Writes goal erases p q old (state m core)
   turn_stopped core is = turn_only core (ap (λ (u : Stored). u.stamp) is) (loses_same (stamped_twice old.core) core.status old.device m (ap (λ (u : Stored). u.group) is) (ap (λ (u : Stored). u.wanted) is))
       (subst (λ (u : Stored). MarksLeft old.core.descriptor (stamped_twice old.core) u) (sym is) (left_same_as old.core.descriptor (stamped_twice old.core)))
 
@@ -130,7 +134,7 @@ module _ (old : State) (written : ℕ) (m : Device) (buf : Buffer) (back : Comes
   parts_of true false is = (refl, refl)
   parts_of false b is = absurd (false≢true is)
 
-  pub unreached_failed : (e : ℕ) → IsTrue (unreached old.core written e) → IsTrue (is_there old.core e) × Rose (old.device.counts.faults e) (m.counts.faults e)
+  pub unreached_failed : (e : ℕ) → IsTrue (unreached old.core.descriptor old.core written e) → IsTrue (is_there old.core e) × Rose (old.device.counts.faults e) (m.counts.faults e)
   unreached_failed e is = let two = parts_of (is_there old.core e) (has written e) is in (two.0, back.badly e two.0 two.1)
 
   some_row : (p : PvRow → Bool) (rows : List PvRow) → list_any p rows ≡ true → (row : PvRow) × (p row ≡ true)
@@ -152,14 +156,14 @@ module _ (old : State) (written : ℕ) (m : Device) (buf : Buffer) (back : Comes
       by_head rest false false is same none its = rest none its
 
   -- where all that were there have votes enough by a descriptor, and those that were reached don't, some weren't
-  pub some_unreached : (g : Descriptor) → CanWrite g (is_there old.core) → IsFalse (is_enough_to_write g (votes_in g (has written))) → (e : ℕ) × IsTrue (unreached old.core written e)
+  pub some_unreached : (g : Descriptor) → CanWrite g (is_there old.core) → IsFalse (is_enough_to_write g (votes_in g (has written))) → (e : ℕ) × IsTrue (unreached old.core.descriptor old.core written e)
   some_unreached g enough few = ⊎_elim
-      (λ any. let row = some_row (λ (r : PvRow). unreached old.core written r.disk) g.pvs any in (row.0.disk, row.1))
+      (λ any. let row = some_row (λ (r : PvRow). unreached old.core.descriptor old.core written r.disk) g.pvs any in (row.0.disk, row.1))
       (λ none. absurd (clash (is_enough_to_write g (votes_in g (has written)))
-      (more_is_enough.write g (votes_in g (is_there old.core)) (votes_in g (has written)) (more_have_more g (is_there old.core) (has written) (λ e member is. reached e is (none_row (unreached old.core written) g.pvs none e member))) enough) few))
-      (either (list_any (λ (r : PvRow). unreached old.core written r.disk) g.pvs))
+      (more_is_enough.write g (votes_in g (is_there old.core)) (votes_in g (has written)) (more_have_more g (is_there old.core) (has written) (λ e member is. reached e is (none_row (unreached old.core.descriptor old.core written) g.pvs none e member))) enough) few))
+      (either (list_any (λ (r : PvRow). unreached old.core.descriptor old.core written r.disk) g.pvs))
     where
-      reached : (e : ℕ) → IsTrue (is_there old.core e) → unreached old.core written e ≡ false → IsTrue (has written e)
+      reached : (e : ℕ) → IsTrue (is_there old.core e) → unreached old.core.descriptor old.core written e ≡ false → IsTrue (has written e)
       reached e is isnt = by (is_there old.core e) (has written e) is isnt
         where
           by : (a b : Bool) → a ≡ true → a && not b ≡ false → b ≡ true

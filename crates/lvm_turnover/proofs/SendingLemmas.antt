@@ -6,10 +6,8 @@ use Rattle.lvm_num.specs.declared.record.Kind.TheVariants as kind
 use Rattle.lvm_num.specs.declared.record.Stamp.{Stamp}
 use Rattle.lvm_num.specs.declared.descriptor.Descriptor.{Descriptor}
 use Rattle.lvm_num.specs.Disks.{Disks, has}
-use Rattle.lvm_num.specs.DescriptorBytes.{descriptor_bytes}
+use Rattle.lvm_num.specs.Descriptor.{IsValid}
 use Rattle.lvm_num.specs.Record.{longest_content}
-use Rattle.lvm_num.specs.Status.{IsValidStatus}
-use Rattle.lvm_num.specs.StatusBytes.{status_bytes}
 use Rattle.lvm_num.specs.Votes.{CanWrite}
 use Rattle.lvm_disk.specs.Device.{Device}
 use Rattle.lvm_status.specs.Update.{Stored, members_there}
@@ -26,19 +24,17 @@ use Rattle.lvm_session.specs.State.{Core, State, state, is_there}
 use Rattle.lvm_session.specs.declared.open.Power.TheVariants as power
 use Rattle.lvm_core.specs.declared.fault.CommitFault.{CommitFault}
 use Rattle.lvm_core.specs.declared.fault.CommitFault.TheVariants as fault
-use Rattle.lvm_core.specs.Committing.{with_one_out}
+use Rattle.lvm_core.specs.Committing.{is_in, with_one_out}
 use Rattle.lvm_core.proofs.RecordLemmas.{descriptor_fits}
 use Rattle.lvm_core.proofs.CommittingLemmas.Buffers.{back_again}
-use Rattle.lvm_change_laws.specs.Rule.{MayChangeRule}
-use Rattle.lvm_change.specs.declared.records.Records.{Records}
+use Rattle.lvm_change_laws.specs.Rule.{MayChange}
 use Rattle.lvm_change.specs.declared.turn.Turn.{Turn}
 use Rattle.lvm_change.specs.declared.turn.Turned.{Turned}
 use Rattle.lvm_change.specs.declared.turn.Turned.TheVariants as turned
 use Rattle.lvm_change.specs.Parting.{PartsWith}
-use Rattle.lvm_change.specs.Records.{IsTurnBy}
 use Rattle.lvm_change.specs.Turn.{MayTurn, TurnGives}
 use Rattle.lvm_turnover.specs.declared.change.Change.{Change}
-use Rattle.lvm_turnover.specs.Turning.{MaySend, MayTurnSession, IsSent, IsSettledBy, TakesOver, GivesUp, GoesOnWith, TurnsSession, after_turn, stamped_twice, unreached}
+use Rattle.lvm_turnover.specs.Turning.{BeginsWith, IsTurnBy, MaySend, MayTurnSession, IsSent, IsSettledBy, TakesOver, GivesUp, GoesOnWith, TurnsSession, after_turn, core_after, disks_leaving, stamped_twice, unreached}
 use Rattle.lvm_turnover.proofs.BeginningLemmas.{first_may}
 
 -- the buffer that comes back is the one that is out
@@ -50,22 +46,23 @@ out_back commit_end.Stuck pool out number = tt
 
 -- ---- before the records
 
-pub may_send : (c : Change) (there : Disks) (s : State) → MayTurnSession c s → there ≡ is_there s.core → MaySend c.records there s
-may_send c there s may is = record { records = may.ready.records; there_is = is; rule = may.rule; commit = may.commit }
+pub may_send : (c : Change) (there : Disks) (s : State) → MayTurnSession c s → there ≡ is_there s.core → MaySend c there s
+may_send c there s may is = record { made = may.ready; there_is = is; leaves = is_in (disks_leaving c.leaving); change = may.change; commit = may.commit }
 
-module _ (r : Records) (there : Disks) (s : State) (may : MaySend r there s) (turn : Turn) (by : IsTurnBy r s.core.descriptor turn) where
+module _ (c : Change) (there : Disks) (s : State) (may : MaySend c there s) (turn : Turn) (by : IsTurnBy c s.core.descriptor turn) where
   pub may_turn : s.core.status.stamp.epoch < 2 ^ 64 → MayTurn turn there s.core.status.stamp s.device
   may_turn bound = record {
     ready = may.commit.ready;
     records = record {
-      told = subst IsValidStatus (sym by.told) may.records.valid;
-      status = by.status ∙ may.records.status ∙ ap status_bytes (sym by.told);
-      content = by.content ∙ may.records.content ∙ ap descriptor_bytes (sym by.next);
-      status_fits = subst (λ (l : List ℕ). length l ≤ longest_content kind.Status) (sym (by.status ∙ may.records.status)) (status_fits r.told may.records.valid);
-      fits = subst (λ (l : List ℕ). length l ≤ longest_content kind.Descriptor) (sym (by.content ∙ may.records.content)) (descriptor_fits r.next may.rule.valid_next);
+      told = by.valid;
+      status = by.status;
+      content = by.content;
+      status_fits = subst (λ (l : List ℕ). length l ≤ longest_content kind.Status) (sym by.status) (status_fits turn.told.now by.valid);
+      fits = subst (λ (l : List ℕ). length l ≤ longest_content kind.Descriptor) (sym by.content) (descriptor_fits turn.next.now (subst IsValid (sym by.next) may.change.valid_next));
     };
-    rule = subst (λ (g : Descriptor). MayChangeRule g turn.next.now there) (sym by.was_is)
-        (subst (λ (g : Descriptor). MayChangeRule s.core.descriptor g there) (sym by.next) (subst (λ (set : Disks). MayChangeRule s.core.descriptor r.next set) (sym may.there_is) may.rule));
+    leaves = may.leaves;
+    change = subst (λ (g : Descriptor). MayChange may.leaves g turn.next.now there) (sym by.was_is)
+        (subst (λ (g : Descriptor). MayChange may.leaves s.core.descriptor g there) (sym by.next) (subst (λ (set : Disks). MayChange may.leaves s.core.descriptor c.next set) (sym may.there_is) may.change));
     room = λ d is. may.commit.settle.room d (subst (λ (g : Descriptor). IsTrue (members_there g s.core.status.wanted d)) may.commit.settle.own (subst (λ (set : Disks). IsTrue (set d)) may.there_is is));
     epoch = may.commit.settle.epoch;
     bound = bound;
@@ -82,7 +79,7 @@ sent_core self taken u homes last is next stamp =
 -- ---- behind them
 
 module _ (c : Change) (before middle after : ℕ) (old new : State) (m : Device) (sent : Core) (there : Disks) (t : Turned) (answer : Result (Unit {0}) CommitFault) (there_is : there ≡ is_there old.core)
-    (is_sent : IsSent c.records there before middle old (state m sent) t) where
+    (is_sent : IsSent c there before middle old (state m sent) t) where
   pub turns : GoesOnWith c sent.homes middle after m old new t answer → TurnsSession c before after old new answer
   turns goes = record {
     turn = is_sent.turn;
@@ -95,40 +92,35 @@ module _ (c : Change) (before middle after : ℕ) (old new : State) (m : Device)
     goes = goes;
   }
 
-  pub not_reached : (written lost : ℕ) → has lost ≡ written_well there (has written) → has lost ≡ unreached old.core written
-  not_reached written lost is = is ∙ ap (λ (set : Disks). written_well set (has written)) there_is
-
-  pub takes_over : (written lost : ℕ) → has lost ≡ written_well there (has written) → (first : Stored) (over : Core) → over ≡ record sent { descriptor = c.records.next; status = first }
-      → PartsWith c.records.next (has lost) (record c.updater { stamp = sent.status.stamp }) first → IsSettledBy middle after (state m over) new answer → TakesOver c written sent.homes middle after m old new answer
+  pub takes_over : (written lost : ℕ) → has lost ≡ unreached c.next old.core written → (first : Stored) (over : Core) → over ≡ record (core_after c.leaving sent) { descriptor = c.next; status = first }
+      → BeginsWith c (has lost) sent.status.stamp first → IsSettledBy middle after (state m over) new answer → TakesOver c written sent.homes middle after m old new answer
   takes_over written lost is first over core parts settles = record {
     first = first;
-    parts = subst (λ (set : Disks). PartsWith c.records.next set (record c.updater { stamp = after_turn old.core.status.stamp }) first) (not_reached written lost is)
-        (subst (λ (x : Stamp). PartsWith c.records.next (has lost) (record c.updater { stamp = x }) first) (ap (λ (k : Core). k.status.stamp) is_sent.is) parts);
-    settles = subst (λ (k : Core). IsSettledBy middle after (state m k) new answer) (core ∙ ap (λ (k : Core). record k { descriptor = c.records.next; status = first; homes = sent.homes }) is_sent.is) settles;
+    parts = subst (λ (set : Disks). BeginsWith c set (after_turn old.core.status.stamp) first) is (subst (λ (x : Stamp). BeginsWith c (has lost) x first) (ap (λ (k : Core). k.status.stamp) is_sent.is) parts);
+    settles = subst (λ (k : Core). IsSettledBy middle after (state m k) new answer) (core ∙ ap (λ (k : Core). record (core_after c.leaving k) { descriptor = c.next; status = first; homes = sent.homes }) is_sent.is) settles;
   }
 
 -- ---- where both stand
 
 module _ (c : Change) (before middle : ℕ) (old : State) (m : Device) (sent : Core) (there : Disks) (written : ℕ) (buf : Buffer) (there_is : there ≡ is_there old.core)
-    (is_sent : IsSent c.records there before middle old (state m sent) (turned.Done written buf)) (may : MayTurnSession c old) where
+    (is_sent : IsSent c there before middle old (state m sent) (turned.Done written buf)) (may : MayTurnSession c old) where
   gives_done : TurnGives is_sent.turn (is_there old.core) old.core.status.stamp old.core.homes sent.homes 0 before middle old.device m (turned.Done written buf)
   gives_done = subst (λ (set : Disks). TurnGives is_sent.turn set old.core.status.stamp old.core.homes sent.homes 0 before middle old.device m (turned.Done written buf)) there_is is_sent.gives
 
   pub done_number : buf.number ≡ 0
   done_number = gives_done.ends.0.number_is
 
-  pub over_may : (lost : ℕ) → has lost ≡ written_well there (has written) → (first : Stored) → PartsWith c.records.next (has lost) (record c.updater { stamp = sent.status.stamp }) first → MayCommit 1 c.records.next first m
+  pub over_may : (lost : ℕ) → has lost ≡ unreached c.next old.core written → (first : Stored) → BeginsWith c (has lost) sent.status.stamp first → MayCommit 1 c.next first m
   over_may lost is first parts =
-      let its : PartsWith c.records.next (unreached old.core written) (record c.updater { stamp = after_turn old.core.status.stamp }) first =
-      subst (λ (set : Disks). PartsWith c.records.next set (record c.updater { stamp = after_turn old.core.status.stamp }) first) (is ∙ ap (λ (set : Disks). written_well set (has written)) there_is)
-      (subst (λ (x : Stamp). PartsWith c.records.next (has lost) (record c.updater { stamp = x }) first) (ap (λ (k : Core). k.status.stamp) is_sent.is) parts)
+      let its : BeginsWith c (unreached c.next old.core written) (after_turn old.core.status.stamp) first =
+      subst (λ (set : Disks). BeginsWith c set (after_turn old.core.status.stamp) first) is (subst (λ (x : Stamp). BeginsWith c (has lost) x first) (ap (λ (k : Core). k.status.stamp) is_sent.is) parts)
       in
-      first_may c old may written gives_done.ends.0.within first its m gives_done.ends.0.ready gives_done.keeps.sizes (subst (λ (g : Descriptor). CanWrite g (has written)) is_sent.by.next gives_done.ends.1.enough_too)
+      first_may c old may its.begun its.begun_is written gives_done.ends.0.within first its.parts m gives_done.ends.0.ready gives_done.keeps.sizes (subst (λ (g : Descriptor). CanWrite g (has written)) is_sent.by.next gives_done.ends.1.enough_too)
 
 -- ---- where the votes were too few
 
 module _ (c : Change) (before middle : ℕ) (old : State) (m : Device) (sent : Core) (there : Disks) (have total written : ℕ) (buf : Buffer) (there_is : there ≡ is_there old.core)
-    (is_sent : IsSent c.records there before middle old (state m sent) (turned.WentOff have total written buf)) where
+    (is_sent : IsSent c there before middle old (state m sent) (turned.WentOff have total written buf)) where
   pub off_number : buf.number ≡ 0
   off_number = (subst (λ (set : Disks). TurnGives is_sent.turn set old.core.status.stamp old.core.homes sent.homes 0 before middle old.device m (turned.WentOff have total written buf)) there_is is_sent.gives).ends.0.number_is
 

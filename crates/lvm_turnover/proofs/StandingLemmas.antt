@@ -1,21 +1,22 @@
--- A session with a next descriptor of the same members, and a status of it, is sound.
-use Rattle.std.proofs.Common.{◌≡◌, ℕ, Bool, true, false, true≢false, List, [], refl, sym, ◌∙◌, ap, subst}
+-- A session with a next descriptor of the same members, or fewer, and a status of it, is sound.
+use Rattle.std.proofs.Common.{◌≡◌, ℕ, Bool, true, false, true≢false, List, [], None, refl, sym, ◌∙◌, ap, subst}
 use Rattle.std.specs.Prelude.{Contains}
 use Rattle.lvm_num.specs.declared.descriptor.PvRow.{PvRow}
 use Rattle.lvm_num.specs.declared.descriptor.Descriptor.{Descriptor}
-use Rattle.lvm_num.specs.Descriptor.{IsValid}
-use Rattle.std.specs.List.{list_any}
-use Rattle.std.specs.Prelude.{◌==◌}
+use Rattle.lvm_num.specs.Descriptor.{IsValid, is_member}
 use Rattle.lvm_num.specs.Status.{calls_missing}
 use Rattle.lvm_num.specs.Votes.{CanWrite}
 use Rattle.lvm_disk.specs.Device.{Device, IsReady}
 use Rattle.lvm_status.specs.Members.{HasItsRows}
 use Rattle.lvm_status.specs.Update.{Stored, members_there}
 use Rattle.lvm_rec.specs.declared.homes.Homes.{Homes}
+use Rattle.lvm_mwc.specs.Cache.{Cached, has_disk, flight_on}
+use Rattle.lvm_mwc.specs.Entries.{AreEntries}
 use Rattle.lvm_write.specs.Written.{IsDarkened, IsGivenUp}
 use Rattle.lvm_commit.specs.Settling.{IsForgotten, IsCommitted, OnlyLoses, there}
 use Rattle.lvm_commit.proofs.RoundsLemmas.Wanting.{row_stays}
 use Rattle.lvm_session.specs.declared.open.Power.TheVariants as power
+use Rattle.lvm_session.specs.declared.origin.Origin.{Origin}
 use Rattle.lvm_session.specs.State.{Core, State, state}
 use Rattle.lvm_session.specs.Dark.{all_dark}
 use Rattle.lvm_session.specs.Placed.{IsPlaced, ArePlaced}
@@ -24,22 +25,26 @@ use Rattle.lvm_core.specs.Sound.{IsFittingAtRest, IsSoundAtRest}
 use Rattle.lvm_core.specs.Settled.{IsSettled}
 use Rattle.lvm_core.specs.Committing.{with_one_out}
 use Rattle.lvm_core.proofs.SoundLemmas.Own.{fits_with, fits_pool, one_out_long, sound_ready, sound_dark, sound_stuck}
+use Rattle.lvm_turnover.proofs.OutLemmas.{is_inside}
 
--- The descriptor has the members that the session's has, and the status is one of it, by which no more of them are there.
-pub record Fits (old : State) (d : Descriptor) (u : Stored) (sizes : List ℕ) : Type 0 where
+-- The descriptor's members are of the session's, the status is one of it, by which no more of them are there, and the cache has the notes of just these.
+pub record Fits (old : State) (d : Descriptor) (u : Stored) (cache : Cached) (sizes : List ℕ) : Type 0 where
   pub valid : IsValid d
   pub own : u.group ≡ record d { lvs = [] }
   pub id : u.wanted.id ≡ d.id
   pub rows : HasItsRows d u.wanted
   pub forgotten : IsForgotten u
-  pub pvs : d.pvs ≡ old.core.descriptor.pvs
+  pub inside : (row : PvRow) → Contains d.pvs row → Contains old.core.descriptor.pvs row
   pub mib : d.mib ≡ old.core.descriptor.mib
-  pub fewer : (e : ℕ) → calls_missing u.wanted e ≡ false → calls_missing old.core.status.wanted e ≡ false
+  pub fewer : (e : ℕ) → is_member d e ≡ true → calls_missing u.wanted e ≡ false → calls_missing old.core.status.wanted e ≡ false
+  pub entries : AreEntries cache.entries
+  pub notes : (disk : ℕ) → has_disk cache disk ≡ is_member d disk
+  pub still : (disk : ℕ) → flight_on cache disk ≡ None
   pub same : sizes ≡ old.device.sizes
 
-module _ (old : State) (d : Descriptor) (u : Stored) (homes : Homes) (new : Device) (fits : Fits old d u new.sizes) (settled_is : IsSettled old.core) (sound : IsSoundAtRest old) where
+module _ (old : State) (d : Descriptor) (u : Stored) (homes : Homes) (cache : Cached) (origin : Origin) (new : Device) (fits : Fits old d u cache new.sizes) (settled_is : IsSettled old.core) (sound : IsSoundAtRest old) where
   abbrev pub base : Core
-  base = record old.core { descriptor = d; status = u; homes = homes }
+  base = record old.core { descriptor = d; status = u; homes = homes; cache = cache; origin = origin }
 
   abbrev pub out : Core
   out = record base { pool = with_one_out old.core.pool }
@@ -50,8 +55,8 @@ module _ (old : State) (d : Descriptor) (u : Stored) (homes : Homes) (new : Devi
     id = fits.id;
     rows = fits.rows;
     group = fits.own;
-    entries = sound.fitting.entries;
-    notes = λ disk. sound.fitting.notes disk ∙ ap (λ (rows : List PvRow). list_any (λ (row : PvRow). row.disk == disk) rows) (sym fits.pvs);
+    entries = fits.entries;
+    notes = fits.notes;
     most = sound.fitting.most;
     queue = sound.fitting.queue;
     a_buffer = sound.fitting.a_buffer;
@@ -62,7 +67,7 @@ module _ (old : State) (d : Descriptor) (u : Stored) (homes : Homes) (new : Devi
 
   placed : ArePlaced new.sizes d u.wanted
   placed row inside there =
-      let its = sound.placed row (subst (λ (rows : List PvRow). Contains rows row) fits.pvs inside) (fits.fewer row.disk there) in
+      let its = sound.placed row (fits.inside row inside) (fits.fewer row.disk (is_inside d.pvs row inside) there) in
       subst (λ (sizes : List ℕ). IsPlaced sizes d.mib row) (sym fits.same) (subst (λ (mib : ℕ). IsPlaced old.device.sizes mib row) (sym fits.mib) its)
 
   lit : is_dark old.core.power ≡ false
@@ -90,7 +95,7 @@ module _ (old : State) (d : Descriptor) (u : Stored) (homes : Homes) (new : Devi
   pub settled_on : IsCommitted u → u.stamp.epoch ≡ old.core.status.stamp.epoch → IsSettled base
   settled_on done epoch = record {
     power = settled_is.power;
-    quiet = record { requests = settled_is.quiet.requests; copy = settled_is.quiet.copy; status = done.idle; notes = settled_is.quiet.notes; buffers = settled_is.quiet.buffers };
+    quiet = record { requests = settled_is.quiet.requests; copy = settled_is.quiet.copy; status = done.idle; notes = fits.still; buffers = settled_is.quiet.buffers };
     committed = done.same;
     epoch = λ none. settled_is.epoch (sym epoch ∙ none);
     votes = subst (λ (g : Descriptor). CanWrite g (members_there g u.wanted)) fits.own done.votes;
@@ -98,20 +103,24 @@ module _ (old : State) (d : Descriptor) (u : Stored) (homes : Homes) (new : Devi
 
 -- a status that only lost members since one that fits, fits
 pub fits_by :
-    (old : State) (d : Descriptor) (first last : Stored) (from to : Device) → IsValid d → d.pvs ≡ old.core.descriptor.pvs → d.mib ≡ old.core.descriptor.mib → first.group ≡ record d { lvs = [] } → first.wanted.id ≡ d.id → HasItsRows d first.wanted
-    → ((e : ℕ) → calls_missing first.wanted e ≡ calls_missing old.core.status.wanted e) → IsForgotten last → OnlyLoses first last from to → (sizes : List ℕ) → sizes ≡ old.device.sizes → Fits old d last sizes
-fits_by old d first last from to valid pvs mib group id rows missing forgotten loses sizes same = record {
+    (old : State) (d : Descriptor) (first last : Stored) (cache : Cached) (from to : Device) → IsValid d → ((row : PvRow) → Contains d.pvs row → Contains old.core.descriptor.pvs row) → d.mib ≡ old.core.descriptor.mib → first.group ≡ record d { lvs = [] }
+    → first.wanted.id ≡ d.id → HasItsRows d first.wanted → ((e : ℕ) → is_member d e ≡ true → calls_missing old.core.status.wanted e ≡ true → calls_missing first.wanted e ≡ true) → IsForgotten last → OnlyLoses first last from to
+    → AreEntries cache.entries → ((disk : ℕ) → has_disk cache disk ≡ is_member d disk) → ((disk : ℕ) → flight_on cache disk ≡ None) → (sizes : List ℕ) → sizes ≡ old.device.sizes → Fits old d last cache sizes
+fits_by old d first last cache from to valid inside mib group id rows missing forgotten loses entries notes still sizes same = record {
   valid = valid;
   own = loses.group ∙ group;
   id = loses.rows.id ∙ id;
   rows = λ disk. row_stays first.wanted last.wanted loses.rows disk ∙ rows disk;
   forgotten = forgotten;
-  pvs = pvs;
+  inside = inside;
   mib = mib;
-  fewer = λ e isnt. by_test e (calls_missing old.core.status.wanted e) refl isnt;
+  fewer = λ e member isnt. by_test e member (calls_missing old.core.status.wanted e) refl isnt;
+  entries = entries;
+  notes = notes;
+  still = still;
   same = same;
 }
   where
-    by_test : (e : ℕ) (b : Bool) → calls_missing old.core.status.wanted e ≡ b → calls_missing last.wanted e ≡ false → calls_missing old.core.status.wanted e ≡ false
-    by_test e true is isnt = absurd (true≢false (sym (loses.stays e (missing e ∙ is)) ∙ isnt))
-    by_test e false is isnt = is
+    by_test : (e : ℕ) → is_member d e ≡ true → (b : Bool) → calls_missing old.core.status.wanted e ≡ b → calls_missing last.wanted e ≡ false → calls_missing old.core.status.wanted e ≡ false
+    by_test e member true is isnt = absurd (true≢false (sym (loses.stays e (missing e member is)) ∙ isnt))
+    by_test e member false is isnt = is

@@ -1,22 +1,25 @@
--- What a group's change of its rule of votes, or of its size, answers, and what it leaves.
-use Rattle.std.specs.Prelude.{◌≡◌, ◌⊎◌, ℕ, [], Result, Ok, Err, IsTrue, IsFalse}
+-- What a group's change of its rule of votes, of its size or of its members answers, and what it leaves.
+use Rattle.std.specs.Prelude.{◌≡◌, ◌⊎◌, ℕ, ◌+◌, ◌*◌, ◌||◌, List, [], length, Result, Ok, Err, IsTrue, IsFalse}
 use Rattle.lvm_num.specs.declared.place.Pp.{Pp}
 use Rattle.lvm_num.specs.declared.descriptor.Descriptor.{Descriptor}
+use Rattle.lvm_num.specs.Disks.{Disks}
 use Rattle.lvm_num.specs.DescriptorBytes.{descriptor_bytes}
 use Rattle.lvm_num.specs.Status.{calls_stale, calls_missing, calls_dirty}
 use Rattle.lvm_num.specs.Votes.{votes_in, total_votes, is_enough_to_write, CanWrite}
 use Rattle.lvm_disk.specs.Counts.{Rose, NoneFalls}
 use Rattle.lvm_disk.specs.Device.{IsReady}
 use Rattle.lvm_kept.specs.Moments.{Moment, StaysCalm}
+use Rattle.lvm_kept.specs.Plans.{Plan}
+use Rattle.lvm_erase.specs.Erasing.{ZeroesSlots}
 use Rattle.lvm_commit.specs.passed.Names.{SpanGoesOn}
 use Rattle.lvm_write.specs.Parts.{Spends}
 use Rattle.lvm_write.specs.Written.{KeepsShelf}
-use Rattle.lvm_commit.specs.Settling.{AreWell, SpendsNumbers, IsOfCommit}
+use Rattle.lvm_commit.specs.Settling.{there, AreWell, SpendsNumbers, IsOfStatus, IsOfCommit}
 use Rattle.lvm_session.specs.declared.open.Power.TheVariants as power
 use Rattle.lvm_session.specs.State.{State, moment_of, is_there}
 use Rattle.lvm_core.specs.declared.fault.CommitFault.{CommitFault}
 use Rattle.lvm_core.specs.declared.fault.CommitFault.TheVariants as fault
-use Rattle.lvm_core.specs.Committing.{HasStated, HasGoneDark, IsLeftOut, StaysBehind}
+use Rattle.lvm_core.specs.Committing.{HasStated, HasGoneDark, IsLeftOut, StaysBehind, is_in}
 use Rattle.lvm_core.specs.Leaves.{NoPartition, IsHeldSince, WasLeftBehind, KeepsHistory, FindsOnly}
 
 -- ---- how it ends
@@ -39,47 +42,79 @@ pub record HasGoneOffBy (by has : Descriptor) (have total : ℕ) (old new : Stat
   pub ready : IsReady new.device
   pub cuts : new.device.counts.cuts ≡ old.device.counts.cuts
 
--- With its descriptor as it was the votes are those by the first of the two descriptors that isn't met; with the next one they are those by that.
-abbrev pub GoesOff : Descriptor → ℕ → ℕ → State → State → Type 0
-GoesOff next have total old new =
+-- With its descriptor as it was the votes are those by the first of the two descriptors that isn't met; with the next one, with which it goes on from here,
+-- they are those by that.
+abbrev pub GoesOffFrom : Descriptor → ℕ → ℕ → State → State → State → Type 0
+GoesOffFrom next have total old over new =
     HasGoneOffBy old.core.descriptor old.core.descriptor have total old new
     ⊎ (HasGoneOffBy next old.core.descriptor have total old new × CanWrite old.core.descriptor (is_there new.core))
-    ⊎ HasGoneOffBy next next have total old new
+    ⊎ HasGoneOffBy next next have total over new
 
--- what a change answers: the next descriptor is committed, or it broke off with the descriptor as it was, or with the next one
+-- what a change answers with which the session goes on from here: the next descriptor is committed, or it broke off with the descriptor as it was, or with the next one
+abbrev pub EndsFrom : Descriptor → ℕ → State → State → State → Result (Unit {0}) CommitFault → Type 0
+EndsFrom next patience old over new (Ok done) = HasStated next over new
+EndsFrom next patience old over new (Err (fault.WentOff have total)) = GoesOffFrom next have total old over new
+EndsFrom next patience old over new (Err fault.Dark) = HasGoneDark old new ⊎ HasGoneDark (with_descriptor next over) new
+EndsFrom next patience old over new (Err fault.Stuck) = IsLeftOut patience old new ⊎ IsLeftOut patience (with_descriptor next over) new
+EndsFrom next patience old over new (Err (fault.DiskFailed disk)) = ⊥
+
+-- where no member leaves, the session goes on from where it was
+abbrev pub GoesOff : Descriptor → ℕ → ℕ → State → State → Type 0
+GoesOff next have total old new = GoesOffFrom next have total old old new
+
 abbrev pub ChangeEnds : Descriptor → ℕ → State → State → Result (Unit {0}) CommitFault → Type 0
-ChangeEnds next patience old new (Ok done) = HasStated next old new
-ChangeEnds next patience old new (Err (fault.WentOff have total)) = GoesOff next have total old new
-ChangeEnds next patience old new (Err fault.Dark) = HasGoneDark old new ⊎ HasGoneDark (with_descriptor next old) new
-ChangeEnds next patience old new (Err fault.Stuck) = IsLeftOut patience old new ⊎ IsLeftOut patience (with_descriptor next old) new
-ChangeEnds next patience old new (Err (fault.DiskFailed disk)) = ⊥
+ChangeEnds next patience old new answer = EndsFrom next patience old old new answer
 
 -- ---- whatever the answer
 
--- What is wanted of the status afterwards, by the members as they were: some have become missing, each after a transfer to it has failed, and further
--- partitions are stale only as copies that were left behind.
-pub record KeepsMarks (next : Descriptor) (old new : State) : Type 0 where
-  pub group : (new.core.status.group ≡ old.core.status.group) ⊎ (new.core.status.group ≡ record next { lvs = [] })
-  pub stale : (p : Pp) → IsTrue (calls_stale old.core.status.wanted p) → IsTrue (calls_stale new.core.status.wanted p)
-  pub further : (p : Pp) → IsTrue (calls_stale new.core.status.wanted p) → IsTrue (calls_stale old.core.status.wanted p) ⊎ WasLeftBehind (λ k. k ≡ next) NoPartition old new p
-  pub dirty : (lv : ℕ) → calls_dirty new.core.status.wanted lv ≡ calls_dirty old.core.status.wanted lv
-  pub stays : (d : ℕ) → IsTrue (calls_missing old.core.status.wanted d) → IsTrue (calls_missing new.core.status.wanted d)
-  pub lost : (d : ℕ) → IsTrue (calls_missing new.core.status.wanted d) → IsFalse (calls_missing old.core.status.wanted d)
-      → IsTrue (is_there old.core d) × Rose (old.device.counts.faults d) (new.device.counts.faults d)
+-- it is this one
+abbrev pub IsNext : Descriptor → Descriptor → Type 0
+IsNext next k = k ≡ next
 
--- What a change leaves, with the patience before and after, whatever its answer.
-pub record ChangeLeaves (next : Descriptor) (before after : ℕ) (old new : State) : Type 0 where
-  -- records of the group's status, and of the next descriptor
-  pub writes : KeepsShelf (is_there old.core) (IsOfCommit (descriptor_bytes next) old.core.status new.core.status) old.device new.device
-  pub status : KeepsMarks next old new
+-- the disk is in the list, or in the set
+abbrev pub among : List ℕ → Disks → Disks
+among disks set disk = is_in disks disk || set disk
+
+-- The sector is one of a status of the group, of a descriptor of which this holds, or zeros at the head of a slot of descriptors of a disk that has left.
+abbrev pub IsOfChange : (Descriptor → Type 0) → List ℕ → List ℕ → State → State → Plan
+IsOfChange N joins erases old new d s value =
+    IsOfStatus old.core.status new.core.status d s value
+    ⊎ ((next : Descriptor) × N next × IsOfCommit (descriptor_bytes next) old.core.status new.core.status d s value)
+    ⊎ (IsTrue (is_in erases d) × ZeroesSlots d d s value)
+
+-- What is wanted of the status afterwards: some members have become missing, each after a transfer to it has failed, and further partitions are stale only as copies that were
+-- left behind. What it said of the disks that left is gone.
+pub record KeepsMarks (N : Descriptor → Type 0) (joins erases : List ℕ) (old new : State) : Type 0 where
+  pub group : (new.core.status.group ≡ old.core.status.group) ⊎ ((k : Descriptor) × N k × (new.core.status.group ≡ record k { lvs = [] }))
+  pub stale : (p : Pp) → IsFalse (is_in erases p.disk) → IsTrue (calls_stale old.core.status.wanted p) → IsTrue (calls_stale new.core.status.wanted p)
+  pub further : (p : Pp) → IsTrue (calls_stale new.core.status.wanted p) → IsTrue (calls_stale old.core.status.wanted p) ⊎ WasLeftBehind N NoPartition old new p
+  pub dirty : (lv : ℕ) → calls_dirty new.core.status.wanted lv ≡ calls_dirty old.core.status.wanted lv
+  pub stays : (d : ℕ) → IsFalse (is_in erases d) → IsTrue (calls_missing old.core.status.wanted d) → IsTrue (calls_missing new.core.status.wanted d)
+  pub lost : (d : ℕ) → IsTrue (calls_missing new.core.status.wanted d) → IsFalse (calls_missing old.core.status.wanted d)
+      → IsTrue (among joins (is_there old.core) d) × Rose (old.device.counts.faults d) (new.device.counts.faults d)
+  pub fewer : (d : ℕ) → IsTrue (there new.core.status d) → IsTrue (among joins (there old.core.status) d)
+
+-- the numbers that it may spend beside those for members that became missing
+abbrev pub numbers_for : List ℕ → List ℕ → ℕ
+numbers_for joins erases = 3 + 6 * (length joins + length erases)
+
+-- What a change leaves that may commit descriptors of which this holds, touch the records of disks that join and of disks that leave, and spend so many numbers, with the patience
+-- before and after, whatever its answer.
+pub record LeavesWithin (most : ℕ) (N : Descriptor → Type 0) (joins erases : List ℕ) (before after : ℕ) (old new : State) : Type 0 where
+  pub writes : KeepsShelf (among joins (among erases (is_there old.core))) (IsOfChange N joins erases old new) old.device new.device
+  pub status : KeepsMarks N joins erases old new
   -- the stamps are of the same session, and rise
-  pub numbers : SpendsNumbers 3 old.core.status new.core.status
+  pub numbers : SpendsNumbers most old.core.status new.core.status
   pub history : KeepsHistory old.core.history new.core.history
   -- a span that leads here goes on, where the disks hold what the session says by whatever was told before it
   pub spans : (run : ℕ) (first : Moment) → IsHeldSince run first old → SpanGoesOn run first (moment_of old) (moment_of new)
-  pub finds : FindsOnly (λ k. k ≡ next) old new
+  pub finds : FindsOnly N old new
   -- no write is open that wasn't, and the disks stay behind the clock
   pub calm : StaysCalm (moment_of old) (moment_of new)
   pub behind : StaysBehind old new
   pub falls : NoneFalls old.device.counts new.device.counts
   pub spends : Spends before after old.device new.device
+
+-- so does a command that takes each of its disks by itself
+abbrev pub ChangeLeaves : (Descriptor → Type 0) → List ℕ → List ℕ → ℕ → ℕ → State → State → Type 0
+ChangeLeaves N joins erases before after old new = LeavesWithin (numbers_for joins erases) N joins erases before after old new

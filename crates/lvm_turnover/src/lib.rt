@@ -1,7 +1,7 @@
-//! A session turns to the next descriptor of its group, by which that has the same members.
+//! A session turns to the next descriptor of its group, by which that has the same members, or one less.
 #![tactic(auto)]
 
 mod change;
 mod turning;
 
-pub use change::{Change, make_change};
+pub use change::{Change, Leaving, make_change, turn_group};

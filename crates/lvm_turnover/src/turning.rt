@@ -1,5 +1,6 @@
 //! A session turns to its group's next descriptor, and goes on with what came of it.
-ghost use Rattle.std.specs.Prelude.{◌≡◌, ◌≤◌, ℕ, None, false, length, replicate, slice_set, IsTrue};
+ghost use Rattle.std.specs.Prelude.{◌≡◌, ◌≤◌, ℕ, None, false, length, replicate, slice_set, take, IsTrue};
+ghost use Rattle.lvm_num.specs.StatusBytes.{status_bytes};
 ghost use Rattle.lvm_num.specs.declared.record.Kind.TheVariants as kind;
 ghost use Rattle.lvm_num.specs.Descriptor.{IsValid, is_member};
 ghost use Rattle.lvm_num.specs.Disks.{has};
@@ -15,38 +16,40 @@ ghost use Rattle.lvm_core.specs.Sound.{HasNoneOpen};
 ghost use Rattle.lvm_core.specs.Committing.{with_one_out};
 ghost use Rattle.lvm_core.specs.Steps.{EndsAs};
 ghost use Rattle.lvm_change.specs.Parting.{PartsWith};
-ghost use Rattle.lvm_turnover.specs.Turning.{MaySend, MayTurnSession, IsSent, IsSettledBy, TurnsSession};
+ghost use Rattle.lvm_mwc.specs.Cache.{flight_on};
+ghost use Rattle.lvm_turnover.specs.Turning.{IsPrepared, IsTurnBy, MaySend, MayTurnSession, IsSent, IsSettledBy, BeginsWith, TurnsSession, core_after};
 
-use lvm_change::{Records, Turned, next_stamp, part_with, turn_over, without};
+use crate::change::{Change, Leaving};
+use lvm_change::{Turn, Turned, next_stamp, part_with, turn_over, without};
 use lvm_commit::{CommitEnd, commit_status};
 use lvm_core::CommitFault;
 use lvm_core::below::{Patience, Power};
 use lvm_disk::Shelf;
 use lvm_num::{Descriptor, DiskSet, Pbuf};
 use lvm_session::{Session, darken};
-use lvm_status::{Updater, members_there};
+use lvm_status::{StaleTable, members_there};
 
-/// Turns a session to the next descriptor of its group. The members that weren't reached become missing, and a status says so before the call
-/// answers. It takes no memory.
+/// Turns a session to the next descriptor of its group, without the member that leaves, where one does. The members that weren't reached become
+/// missing, and a status says so before the call answers. It takes no memory.
 pub fn turn_session<S: Shelf>(
     session: &mut Session,
     shelf: &mut S,
-    records: Records,
-    updater: Updater,
+    change: Change,
     patience: &mut Patience,
 ) -> Result<(), CommitFault>
     requires some { 1 ≤ length session.old.pool }
     requires buffers { session.old.pool ≡ replicate (length session.old.pool) false }
     requires none { HasNoneOpen (core_of session.old) }
     requires bytes { 131072 ≤ length session.old.bytes.items }
-    requires may { MayTurnSession (record { records = records; updater = updater }) (state (S.device shelf.old) (core_of session.old)) }
-    ensures does { TurnsSession (record { records = records; updater = updater }) patience.old.left patience.new.left (state (S.device shelf.old) (core_of session.old)) (state (S.device shelf.new) (core_of session.new)) result }
+    requires may { MayTurnSession change (state (S.device shelf.old) (core_of session.old)) }
+    ensures does { TurnsSession change patience.old.left patience.new.left (state (S.device shelf.old) (core_of session.old)) (state (S.device shelf.new) (core_of session.new)) result }
     ensures rooms { SameRooms session.old session.new }
 {
     let there = members_there(&session.descriptor, session.updater.wanted());
-    match send(session, shelf, &records, there, patience) {
+    let stay = members_there(&change.next, session.updater.wanted());
+    match send(session, shelf, &change, there, patience) {
         Turned::Done { written, buf } => {
-            take_over(session, records.next, updater, without(there, written));
+            take_over(session, change, without(stay, written));
             settle(session, shelf, buf, patience)
         }
         Turned::WentOff {
@@ -83,14 +86,15 @@ fn take_buffer(session: &mut Session) -> Pbuf
 fn send<S: Shelf>(
     session: &mut Session,
     shelf: &mut S,
-    records: &Records,
+    change: &Change,
     there: DiskSet,
     patience: &mut Patience,
 ) -> Turned
     requires some { 1 ≤ length session.old.pool }
     requires buffers { session.old.pool ≡ replicate (length session.old.pool) false }
-    requires may { MaySend records.now (has there) (state (S.device shelf.old) (core_of session.old)) }
-    ensures sent { IsSent records.now (has there) patience.old.left patience.new.left (state (S.device shelf.old) (core_of session.old)) (state (S.device shelf.new) (core_of session.new)) result }
+    requires bytes { 131072 ≤ length session.old.bytes.items }
+    requires may { MaySend change.now (has there) (state (S.device shelf.old) (core_of session.old)) }
+    ensures sent { IsSent change.now (has there) patience.old.left patience.new.left (state (S.device shelf.old) (core_of session.old)) (state (S.device shelf.new) (core_of session.new)) result }
     ensures rooms { SameRooms session.old session.new }
 {
     let buf = take_buffer(session);
@@ -98,33 +102,71 @@ fn send<S: Shelf>(
     let first = next_stamp(stamp);
     let last = next_stamp(first);
     session.updater.set_stamp(last);
-    turn_over(
-        shelf,
-        records.turn(&session.descriptor),
-        stamp,
-        there,
-        &mut session.homes,
-        buf,
-        patience,
-    )
+    let count = spell_status(session, change.tables.told());
+    let turn = turn_by(change, &session.descriptor, &session.bytes[..count]);
+    turn_over(shelf, turn, stamp, there, &mut session.homes, buf, patience)
 }
 
-// The session is one of the next descriptor, with the status that stands on its disks; these members are wanted missing.
-fn take_over(session: &mut Session, next: Descriptor, updater: Updater, lost: DiskSet)
-    requires valid { IsValid next }
-    requires own { IsOf next updater }
-    requires idle { updater.in_flight ≡ None }
-    requires rows { HasItsRows updater.group updater.wanted }
-    requires members { (disk : ℕ) → IsTrue (has lost disk) → IsTrue (is_member next disk) }
-    ensures core { core_of session.new ≡ record (core_of session.old) { descriptor = next; status = session.new.updater } }
-    ensures parts { PartsWith next (has lost) (record updater { stamp = session.old.updater.stamp }) session.new.updater }
+// The turn to the next descriptor from the one that is committed, with these bytes of its status.
+fn turn_by<'a>(change: &'a Change, was: &'a Descriptor, status: &'a [u8]) -> Turn<'a>
+    requires prepared { IsPrepared change.now }
+    requires status { status.now ≡ status_bytes change.now.tables.told }
+    ensures { IsTurnBy change.now was.now result }
+{
+    Turn {
+        was,
+        next: &change.next,
+        told: change.tables.told().as_status(),
+        status,
+        content: change.content.as_slice(),
+    }
+}
+
+// Writes the bytes of a status to the front of those that the session has room for, and answers how many these are.
+fn spell_status(session: &mut Session, told: &StaleTable) -> usize
+    requires { 131072 ≤ length session.old.bytes.items }
+    ensures spelled { take result session.new.bytes.items ≡ status_bytes told.now }
+    ensures within { result ≤ length session.new.bytes.items }
+    ensures same { session.new ≡ record session.old { bytes = session.new.bytes } }
+    ensures long { length session.new.bytes.items ≡ length session.old.bytes.items }
+{
+    lvm_vgsa::encode_into(told.as_status(), &mut session.bytes)
+}
+
+// The session is one of the next descriptor, without the member that leaves, and with the status that stands on its disks; these members are wanted missing.
+fn take_over(session: &mut Session, change: Change, lost: DiskSet)
+    requires valid { IsValid change.next }
+    requires prepared { IsPrepared change }
+    requires rows { HasItsRows change.next change.tables.told }
+    requires idle { session.old.updater.in_flight ≡ None }
+    requires members { (disk : ℕ) → IsTrue (has lost disk) → IsTrue (is_member change.next disk) }
+    requires still { (disk : ℕ) → flight_on session.old.cache disk ≡ None }
+    ensures core { core_of session.new ≡ record (core_after change.leaving (core_of session.old)) { descriptor = change.next; status = session.new.updater } }
+    ensures parts { BeginsWith change (has lost) session.old.updater.stamp session.new.updater }
     ensures rooms { SameRooms session.old session.new }
 {
-    let mut updater = updater;
-    updater.set_stamp(session.updater.stamp());
-    part_with(&next, &mut updater, lost);
-    session.updater = updater;
+    let Change {
+        next,
+        content: _,
+        tables,
+        leaving,
+    } = change;
+    session.updater.install(tables);
+    part_with(&next, &mut session.updater, lost);
     session.descriptor = next;
+    let_go(session, leaving);
+}
+
+// The session goes on without the notes of the member that leaves, where one does, and with the rows of those that stay.
+fn let_go(session: &mut Session, leaving: Option<Leaving>)
+    requires still { (disk : ℕ) → flight_on session.old.cache disk ≡ None }
+    ensures core { core_of session.new ≡ core_after leaving (core_of session.old) }
+    ensures rooms { SameRooms session.old session.new }
+{
+    if let Some(Leaving { disk, origin }) = leaving {
+        session.cache.dismiss(disk);
+        session.origin.table = origin;
+    }
 }
 
 // The session goes off with its descriptor; these members are wanted missing.

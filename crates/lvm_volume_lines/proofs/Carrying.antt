@@ -28,7 +28,7 @@ use Rattle.lvm_range_lines.proofs.passed.Tie.{goes_any, path_frames, path_shape}
 use Rattle.lvm_volume_lines.specs.Commands.{HasRested, IsHeldAgain, IsLeftAs, IsLeftOff, IsLeftOn}
 use Rattle.lvm_volume_lines.specs.Volumes.{Drains, IsLeftEither, StaysOn}
 use Rattle.lvm_volume_lines.proofs.Commanding.{Acts, AtMid, ClosesWell, Promised, goes_off, goes_on, rows_mid}
-use Rattle.lvm_volume_lines.proofs.Ending.{SameShape, rows_stay}
+use Rattle.lvm_volume_lines.proofs.Ending.{KeepsRows}
 use Rattle.lvm_volume_lines.proofs.Resting.{IsStill, TurnsKeep, still_turns, turns_keep}
 
 -- ---- a session that is held again
@@ -64,7 +64,7 @@ pub record IsCarried (run : ℕ) (over : Bool) (reply : Reply) (shelf : Device) 
   pub few : most_refusals reply ≤ 1
   pub landed : HaveAllLanded left.core.history.facts
   pub answers : LeavesAnswers mid.core.history.facts left.core.history.facts
-  pub shape : over ≡ false → SameShape mid left
+  pub rows : over ≡ false → KeepsRows mid left
   pub spans : (first : Moment) → MayBeCommanded run first mid → IsAloneAtFirst mid left → Keeps run first (moment_of left)
   pub stands : over ≡ false → (first : Moment) → MayBeCommanded run first mid → IsAloneAtFirst mid left → IsLeftStandingSince run first left
 
@@ -234,7 +234,7 @@ module _ {S : Type 0} (device : S → Device) (stage : Stage S) (fits : IsFittin
           let stays = stays_on lasts last in
           goes_on role acts (state_in device stage last) core mid left (at_mid last) promised known.answers reply (state_in device it last) stays.facts refl known.few
           known.spans on.held.core on.held.is stays.session stays.device stays.posts (known.ready lasts) (known.settled lasts) known.landed on.held.sound
-          (rows_again device added out on.by on.held (rows_stay mid left (known.shape lasts) (rows_mid (state_in device stage last) core mid (at_mid last))))
+          (rows_again device added out on.by on.held (known.rows lasts (rows_mid (state_in device stage last) core mid (at_mid last))))
           (λ m may alone past begins. stands_again device added out on.by on.held past (known.stands lasts m may alone (sectors out.0) past begins))
 
       -- the line ends so, by what it does

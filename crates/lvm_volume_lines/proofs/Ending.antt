@@ -139,6 +139,9 @@ rmlv_shape lv patience old new (Err fault.HistoryFull) refused goes = shape_as o
 rmlv_shape lv patience old new (Err fault.Memory) refused goes = shape_as old new refused.0
 rmlv_shape lv patience old new (Err _) none goes = absurd none
 
--- so the status with which it began has the rows of the members
-pub rows_stay : (old new : State) → SameShape old new → HasItsRows old.core.descriptor old.core.origin.table → HasItsRows new.core.descriptor new.core.origin.table
+-- the status with which it began has the rows of the members, where it had
+abbrev pub KeepsRows : State → State → Type 0
+KeepsRows old new = HasItsRows old.core.descriptor old.core.origin.table → HasItsRows new.core.descriptor new.core.origin.table
+
+pub rows_stay : (old new : State) → SameShape old new → KeepsRows old new
 rows_stay old new same rows disk = ap (λ o. has_row o.table disk) same.origin ∙ rows disk ∙ ap (λ (pvs : List PvRow). list_any (λ (row : PvRow). row.disk == disk) pvs) (sym same.pvs)

@@ -21,7 +21,7 @@ use Rattle.lvm_volume_lines.specs.Commands.{HasRested, IsCarriedOut, IsLeftAs}
 use Rattle.lvm_volume_lines.specs.Volumes.{IsDone, volume_reply}
 use Rattle.lvm_volume_lines.proofs.Carrying.{IsCarried, at_mid, carried_ends, finds_no_more, left_either}
 use Rattle.lvm_volume_lines.proofs.Commanding.{Acts, Promised, promised_by, ready_mid}
-use Rattle.lvm_volume_lines.proofs.Ending.{Facts, SameShape, closes_after, one_answer, ready_still}
+use Rattle.lvm_volume_lines.proofs.Ending.{Facts, SameShape, closes_after, one_answer, ready_still, rows_stay}
 
 -- ---- by the answer
 
@@ -70,7 +70,7 @@ module _ {S : Type 0} (device : S → Device) (stage : Stage S) (fits : IsFittin
         few = one_answer patience mid left given;
         landed = (known 0).landed;
         answers = (known 0).answers;
-        shape = (known 0).shape;
+        rows = λ goes. rows_stay mid left ((known 0).shape goes);
         spans = λ m may alone. ((known 0).goes m may alone).0;
         stands = λ goes m may alone. if_on given (IsLeftStandingSince run m left) ((known 0).goes m may alone).1 goes;
       }

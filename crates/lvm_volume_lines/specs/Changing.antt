@@ -2,10 +2,8 @@
 use Rattle.std.specs.Prelude.{◌≡◌, ◌≤◌, ℕ, Bool, false, [], List, Some, Result, Ok, Err, IfSome, Vec}
 use Rattle.std.specs.declared.alloc.Global.{Global}
 use Rattle.lvm_num.specs.declared.descriptor.Descriptor.{Descriptor}
-use Rattle.lvm_num.specs.DescriptorBytes.{descriptor_bytes}
 use Rattle.lvm_disk.specs.Device.{Device, IsReady}
 use Rattle.lvm_write.specs.Written.{KeepsShelf}
-use Rattle.lvm_commit.specs.Settling.{IsOfCommit}
 use Rattle.lvm_session.specs.State.{Core, State, state, is_there}
 use Rattle.lvm_core.specs.declared.fault.CommitFault.{CommitFault}
 use Rattle.lvm_core.specs.Held.{IsHeld}
@@ -14,7 +12,7 @@ use Rattle.lvm_core.specs.Settled.{IsSettled}
 use Rattle.lvm_core.specs.State.{state_of}
 use Rattle.lvm_range_lines.specs.passed.Names.{Post}
 use Rattle.lvm_range_lines.specs.passed.GroupLines.{IsNotOn, IsOn, IsRefused, open_in, ScriptState, Refusal, Reply, Stage}
-use Rattle.lvm_volume_lines.specs.passed.Members.{BigGives, IsChangedTo, KeepsMarks, RuleFault, RuleGives, as_big, ends_session, is_over, with_quorum}
+use Rattle.lvm_volume_lines.specs.passed.Members.{BigGives, IsChangedTo, IsNext, IsOfChange, KeepsMarks, among, RuleFault, RuleGives, as_big, ends_session, is_over, with_quorum}
 use Rattle.lvm_volume_lines.specs.passed.RuleFaultVariants as fault
 use Rattle.lvm_volume_lines.specs.passed.RefusalVariants as refusal
 use Rattle.lvm_volume_lines.specs.passed.ReplyVariants as reply
@@ -51,17 +49,17 @@ pub record IsChangeCarriedOut {S : Type 0} (device : S → Device) (next : Descr
   pub is : IsLeftAs device (is_over given) [] left posts bytes stage
   pub says : answer ≡ change_reply given
 
--- The change to this descriptor on the session, at which nothing was under way, was answered so, the clock wasn't asked, and of descriptors none may be found then
--- that might not be before, but that one. Only statuses of the session and that descriptor were written, to members; a member became missing only after a transfer
--- to it had failed, and only partitions of copies that were left behind became stale. Where the session goes on it is at rest, and its disks hold what it says,
--- where they did.
-pub record IsChangeDone (next : Descriptor) (Gives : State → State → Type 0) (over : Bool) (mid : State) (old new : ScriptState) : Type 0 where
+-- The change on the session, at which nothing was under way, was answered so, the clock wasn't asked, and of descriptors none may be found then that might not be
+-- before, but one of which N holds. Only statuses of the session and such descriptors were written, to members and disks that join, and zeros at the heads of slots
+-- of disks that left; a member became missing only after a transfer to it had failed, and only partitions of copies that were left behind became stale. Where the
+-- session goes on it is at rest, and its disks hold what it says, where they did.
+pub record IsChangeDone (N : Descriptor → Type 0) (joins erases : List ℕ) (Gives : State → State → Type 0) (over : Bool) (mid : State) (old new : ScriptState) : Type 0 where
   pub left : State
   pub gives : Gives mid left
   pub leaves : IsLeftEither over left old new
-  pub finds : FindsOnly (λ k. k ≡ next) mid (state new.moment.device left.core)
-  pub status : KeepsMarks next mid left
-  pub writes : KeepsShelf (is_there mid.core) (IsOfCommit (descriptor_bytes next) mid.core.status left.core.status) mid.device left.device
+  pub finds : FindsOnly N mid (state new.moment.device left.core)
+  pub status : KeepsMarks N joins erases mid left
+  pub writes : KeepsShelf (among joins (among erases (is_there mid.core))) (IsOfChange N joins erases mid left) mid.device left.device
   pub held : over ≡ false → IsHeld mid.device mid.core → IsHeld left.device left.core
   pub rests : over ≡ false → IsSettled left.core × IsReady left.device
   pub clock : new.last ≡ old.last
@@ -69,11 +67,11 @@ pub record IsChangeDone (next : Descriptor) (Gives : State → State → Type 0)
 -- so quorum checking was switched, with so much patience,
 abbrev pub ChvgQuorumEnds : Bool → Result (Unit {0}) RuleFault → Bool → ℕ → State → ScriptState → ScriptState → Type 0
 ChvgQuorumEnds on given over patience mid old new =
-    IsChangeDone (with_quorum on mid.core.descriptor) (λ was is. RuleGives (with_quorum on was.core.descriptor) patience was is given) over mid old new
+    IsChangeDone (IsNext (with_quorum on mid.core.descriptor)) [] [] (λ was is. RuleGives (with_quorum on was.core.descriptor) patience was is given) over mid old new
 
 -- and so the group became big
 abbrev pub ChvgBigEnds : Result (Unit {0}) RuleFault → Bool → ℕ → State → ScriptState → ScriptState → Type 0
-ChvgBigEnds given over patience mid old new = IsChangeDone (as_big mid.core.descriptor) (λ was is. BigGives patience was is given) over mid old new
+ChvgBigEnds given over patience mid old new = IsChangeDone (IsNext (as_big mid.core.descriptor)) [] [] (λ was is. BigGives patience was is given) over mid old new
 
 -- ---- the lines
 

@@ -15,4 +15,6 @@ pub use closing::do_varyoff;
 pub use copies::{do_mklvcopy, do_rmlvcopy};
 pub use resync::{do_sync_group, do_sync_volume};
 pub use split::do_splitlvcopy;
-pub use volumes::{after, after_fault, come_to_rest, do_mklv, do_rmlv, drain_refusal, go_on};
+pub use volumes::{
+    after, after_fault, close_after, come_to_rest, do_mklv, do_rmlv, drain_refusal, go_on,
+};

@@ -1,3 +1,3 @@
 -- Passed on from `lvm_members`, and from the crates that it stands on.
-pub use Rattle.lvm_tie_commands.specs.passed.Members.{BigGives, BreaksOff, ChangeEnds, ChangeLeaves, GoesOff, HasGoneOffBy, IfOn, IsRefused, IsRefusedFor, KeepsMarks, LosesVotes, MayBeChanged, MayChangeRule, NothingGives, RefusesChange, RuleFault, RuleGives, as_big, ends_session, is_over, with_descriptor, with_quorum}
+pub use Rattle.lvm_tie_commands.specs.passed.Members.{BigGives, BreaksOff, ChangeEnds, ChangeLeaves, GoesOff, HasGoneOffBy, IfOn, IsNext, IsOfChange, IsRefused, IsRefusedFor, KeepsMarks, LosesVotes, MayBeChanged, MayChangeRule, NothingGives, RefusesChange, RuleFault, RuleGives, among, as_big, ends_session, is_over, with_descriptor, with_quorum}
 pub use Rattle.lvm_tie_commands.specs.Changing.{IsChangedTo}

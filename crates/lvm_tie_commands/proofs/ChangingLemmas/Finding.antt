@@ -15,7 +15,7 @@ use Rattle.lvm_tie_commands.proofs.Resting.{still}
 
 -- before it nothing else of the group was found
 module _ (s : State) (media : Media) (told : s.device.media ≡ Some media) (nothing_out : s.device.flights ≡ []) (held : Held s media) where
-  only_before : (k : Descriptor) → MayBeFound s.device s.core.descriptor.id k → k ≡ s.core.descriptor
+  pub only_before : (k : Descriptor) → MayBeFound s.device s.core.descriptor.id k → k ≡ s.core.descriptor
   only_before k may = (still_holds_committed s.core.descriptor s.core.status.committed (is_there s.core) s.core.status.stamp s.core.homes s.device media told nothing_out held may.0 may.1).shows.only may.2.0 k may.2.1
 
 pub change_finds_two : ChangeFindsTwo

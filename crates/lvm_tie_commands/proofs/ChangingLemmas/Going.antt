@@ -3,7 +3,7 @@ use Rattle.std.proofs.Common.{◌≡◌, inl, inr, ℕ, Bool, true, false, [], O
 use Rattle.std.specs.Prelude.{◌≢◌, ⊤, MatchBool}
 use Rattle.lvm_num.specs.declared.descriptor.Descriptor.{Descriptor}
 use Rattle.lvm_num.specs.Descriptor.{is_member}
-use Rattle.lvm_num.specs.DescriptorBytes.{descriptor_bytes}
+use Rattle.lvm_num.specs.Buffer.{Sector}
 use Rattle.lvm_num.specs.Record.{Stamped}
 use Rattle.lvm_num.specs.declared.status.Status.{Status}
 use Rattle.lvm_disk.specs.Device.{Media, image_of}
@@ -15,20 +15,19 @@ use Rattle.lvm_kept.specs.Plans.{ChangesBy}
 use Rattle.lvm_steps.specs.Moments.{Keeps}
 use Rattle.lvm_write.specs.Written.{KeepsShelf}
 use Rattle.lvm_commit.specs.LawsOfVolumes.{IsOneFoundOn}
-use Rattle.lvm_commit.specs.Settling.{IsOfCommit}
 use Rattle.lvm_commit.proofs.SettlingLemmas.Chaining.{keeps_wider}
 use Rattle.lvm_session.specs.State.{Core, State, is_there, moment_of}
 use Rattle.lvm_volume_plan.specs.passed.Names.{IsSettled}
 use Rattle.lvm_handover.specs.passed.Names.{IsOfCommand, NoPartition}
 use Rattle.lvm_settled.specs.passed.Names.{IsEven}
-use Rattle.lvm_members.specs.passed.Names.{with_quorum, as_big, DiffersInRule}
+use Rattle.lvm_members.specs.passed.Names.{with_quorum, as_big, DiffersInRule, IsNext, IsOfChange}
 use Rattle.lvm_volumes.specs.Endings.{StillHeld}
 use Rattle.lvm_members.specs.declared.fault.RuleFault.{RuleFault}
 use Rattle.lvm_members.specs.declared.fault.RuleFault.TheVariants as fault
 use Rattle.lvm_members.specs.Commands.{BigGives, NothingGives, RuleGives, IfOn, is_over}
 use Rattle.lvm_tie_commands.specs.Commands.{IsLeftStandingSince, MayBeCommanded}
 use Rattle.lvm_tie_commands.specs.Changing.{IsChangedTo, MakeBigGoesOn, SetQuorumGoesOn}
-use Rattle.lvm_tie_commands.proofs.CommandsLemmas.Commands.{KeepsEven, LeavesStanding, left_standing_by, told_next}
+use Rattle.lvm_tie_commands.proofs.CommandsLemmas.Commands.{KeepsEven, LeavesStanding, keeps_even_for, left_standing_by, still_there, told_next}
 use Rattle.lvm_tie_commands.proofs.CommandsLemmas.Records.{records_keep_even}
 use Rattle.lvm_tie_commands.proofs.HeldLemmas.{holds_before}
 
@@ -81,15 +80,17 @@ module _ (run : ℕ) (first : Moment) (next : Descriptor) (before after : ℕ) (
   pub change_keeps : Keeps run first (moment_of new)
   change_keeps = c.leaves.spans run first (λ past begins. (holds_before run first old may c.began past begins).0) may.keeps
 
-  abbrev IsNext : Descriptor → Type 0
-  IsNext k = k ≡ next
+  -- beside statuses and the next descriptor nothing is written, since no disk has left
+  of_records : (d n : ℕ) (value : Sector) → IsOfChange (IsNext next) [] [] old new d n value → IsOfCommand (IsNext next) NoPartition old new d n value
+  of_records d n value (inl of) = inl of
+  of_records d n value (inr (inl of)) = inr (inl of)
+  of_records d n value (inr (inr of)) = absurd (cc of.0)
 
-  writes : KeepsShelf (is_there old.core) (IsOfCommand IsNext NoPartition old new) old.device new.device
-  writes = keeps_wider (is_there old.core) (is_there old.core) (IsOfCommit (descriptor_bytes next) old.core.status new.core.status) (IsOfCommand IsNext NoPartition old new) old.device new.device (λ d off. off)
-      (λ d s value it. inr (inl (next, refl, it))) c.leaves.writes
+  writes : KeepsShelf (is_there old.core) (IsOfCommand (IsNext next) NoPartition old new) old.device new.device
+  writes = keeps_wider (is_there old.core) (is_there old.core) (IsOfChange (IsNext next) [] [] old new) (IsOfCommand (IsNext next) NoPartition old new) old.device new.device (λ d off. off) of_records c.leaves.writes
 
   abbrev Between : Media → Media → Type 0
-  Between was is = ChangesBy (IsOfCommand IsNext NoPartition old new) (image_of old.device.sizes was) (image_of new.device.sizes is)
+  Between was is = ChangesBy (IsOfCommand (IsNext next) NoPartition old new) (image_of old.device.sizes was) (image_of new.device.sizes is)
 
   standing : LeavesStanding old new
   standing = record {
@@ -97,7 +98,6 @@ module _ (run : ℕ) (first : Moment) (next : Descriptor) (before after : ℕ) (
     calm = c.leaves.calm;
     run_is = ap (λ (l : Log). l.run) c.leaves.history.room;
     epoch = c.leaves.numbers.epoch;
-    stays = c.leaves.status.stays;
   }
 
   abbrev EvenFor : Media → Stamped Status → Descriptor → Type 0
@@ -126,7 +126,7 @@ module _ (run : ℕ) (first : Moment) (next : Descriptor) (before after : ℕ) (
         change = subst (λ (m : Option Media). BothTold m (Some is) Between) told (subst (λ (m : Option Media). BothTold old.device.media m Between) told_new writes.media)
 
         kept : EvenFor is stands old.core.descriptor
-        kept = records_keep_even IsNext old new was is stood stands wanted c.leaves.status.stale change even
+        kept = records_keep_even (IsNext next) old new was is stood stands wanted (λ p. c.leaves.status.stale p refl) change even
 
         by : IsChangedOrNot next old new → EvenFor is stands new.core.descriptor
         by (IsAsBefore same) = subst (EvenFor is stands) (sym (ap (λ (s : State). s.core.descriptor) same)) kept
@@ -136,7 +136,7 @@ module _ (run : ℕ) (first : Moment) (next : Descriptor) (before after : ℕ) (
     had_some some none = absurd (some (no_volume none))
 
     left_so : IsSettled new.core → StillHeld old new → IsLeftStandingSince run first new
-    left_so on still whole past begins = left_standing_by run first old new may c.began standing on still members keeps_even had_some change_keeps whole past begins
+    left_so on still whole past begins = left_standing_by run first old new may c.began standing on still (keeps_even_for old new (still_there old new members (λ d. c.leaves.status.stays d refl)) keeps_even) had_some change_keeps whole past begins
 
   pub change_goes_on : IfOn answer (IsChangedOrNot next old new) → Keeps run first (moment_of new) × IfOn answer (IsLeftStandingSince run first new)
   change_goes_on changed = (change_keeps, on_all answer (IsSettled new.core) (StillHeld old new) (IsChangedOrNot next old new) (IsLeftStandingSince run first new) c.on c.still changed (λ on still so. left_so so on still))

@@ -18,7 +18,7 @@ use Rattle.lvm_session.specs.Left.{updates_left}
 use Rattle.lvm_session.specs.Sound.{IsSound}
 use Rattle.lvm_volume_plan.specs.passed.Names.{HasStated, NoPartition, WasLeftBehind, IsSettled}
 use Rattle.lvm_keeps.proofs.LeftLemmas.Updates.{few_updates}
-use Rattle.lvm_members.specs.passed.Names.{with_quorum, as_big, DiffersInRule, ChangeLeaves}
+use Rattle.lvm_members.specs.passed.Names.{with_quorum, as_big, DiffersInRule, ChangeLeaves, IsNext}
 use Rattle.lvm_volumes.specs.Endings.{HasFresh, KeepsFresh, StillHeld}
 use Rattle.lvm_volumes.proofs.StagesLemmas.Entering.{many_bound}
 use Rattle.lvm_members.specs.declared.fault.RuleFault.{RuleFault}
@@ -32,7 +32,7 @@ use Rattle.lvm_tie_commands.specs.Changing.{IsChangedTo, MakeBigServes, SetQuoru
 use Rattle.lvm_tie_commands.proofs.ServingLemmas.More.{refused}
 
 module _ (next : Descriptor) (before after : ℕ) (old new : State) (sound : IsSound old) (began : IsSettled old.core) (on : IsSettled new.core) (still : StillHeld old new) (keeps : KeepsFresh old new)
-    (leaves : ChangeLeaves next before after old new) (may : MayBeChanged next old.core) (done : HasStated next old new) where
+    (leaves : ChangeLeaves (IsNext next) [] [] before after old new) (may : MayBeChanged next old.core) (done : HasStated next old new) where
   abbrev was : Descriptor
   was = old.core.descriptor
 
@@ -57,10 +57,12 @@ module _ (next : Descriptor) (before after : ℕ) (old new : State) (sound : IsS
   same_there : (disk : ℕ) → members_there new.core.status.group new.core.status.wanted disk ≡ members_there was new.core.status.wanted disk
   same_there disk = ⊎_elim
       (λ (same : new.core.status.group ≡ old.core.status.group). ap (λ (g : Descriptor). members_there g new.core.status.wanted disk) (same ∙ sound.fitting.group))
-      (λ (is : new.core.status.group ≡ record next { lvs = [] }). ap (λ (g : Descriptor). members_there g new.core.status.wanted disk) is ∙ ap (λ (g : Descriptor). members_there g new.core.status.wanted disk) differs)
+      (λ (other : (k : Descriptor) × IsNext next k × (new.core.status.group ≡ record k { lvs = [] })).
+      let is : new.core.status.group ≡ record next { lvs = [] } = other.2 ∙ ap (λ (g : Descriptor). record g { lvs = [] }) other.1 in
+      ap (λ (g : Descriptor). members_there g new.core.status.wanted disk) is ∙ ap (λ (g : Descriptor). members_there g new.core.status.wanted disk) differs)
       leaves.status.group
 
-  behind_is_missing : (p : Pp) → WasLeftBehind (λ k. k ≡ next) NoPartition old new p → IsTrue (is_missing new.core p.disk)
+  behind_is_missing : (p : Pp) → WasLeftBehind (IsNext next) NoPartition old new p → IsTrue (is_missing new.core p.disk)
   behind_is_missing p left = second_with_first (is_member was p.disk) (is_missing new.core p.disk)
       (on_member left.group left.known left.its.row left.its.lp p left.its.volume left.its.one) (sym (same_there p.disk) ∙ left.absent)
 
@@ -83,7 +85,7 @@ module _ (next : Descriptor) (before after : ℕ) (old new : State) (sound : IsS
         let updates : updates_left new.core ≤ 129 = few_updates new.core valid on.quiet.requests on.quiet.copy in
         omega (arith, many, most, left, updates);
     left = still.left (none_before old sound began);
-    stays = leaves.status.stays;
+    stays = λ disk gone. leaves.status.stays disk refl gone;
     lost = λ disk gone there. (leaves.status.lost disk gone there).1;
     further = λ p stale. ⊎_elim (λ (first : IsTrue (calls_stale old.core.status.wanted p)). inl first) (λ left. inr (inr (behind_is_missing p left))) (leaves.status.further p stale);
     fresh = λ lv lp p one first apart. fresh lv lp p one first;

@@ -70,19 +70,26 @@ module _ (run : ℕ) (first : Moment) (old new : State) (may : MayBeCommanded ru
   pub is_alone : (old.core.descriptor.lvs ≡ [] → EntersVolumes old.core.history.facts new.core.history.facts → IsOneFoundOn old.device) → IfAlone old new run first
   is_alone one enters past begins = (carries run first old may began past begins (λ none. one none enters)).1.only
 
--- What a command leaves, as far as what stands on the disks goes on by it: their media is told, no write is open that wasn't, its run and its epoch are as they were, and
--- no member comes back.
+-- so it is of the statuses that are wanted, whichever members there are
+abbrev pub KeepsEvenFor : State → State → Type 0
+KeepsEvenFor old new = (was is : Media) (stood stands : Stamped Status) → old.device.media ≡ Some was → new.device.media ≡ Some is → stood.value ≡ old.core.status.wanted → stands.value ≡ new.core.status.wanted
+    → IsEven (shown_to old was) old.core.descriptor (Some stood) (is_there old.core) → IsEven (shown_to new is) new.core.descriptor (Some stands) (is_there new.core)
+
+-- so it is where no member comes back
+pub keeps_even_for : (old new : State) → ((d : ℕ) → IsTrue (is_there new.core d) → IsTrue (is_there old.core d)) → KeepsEven old new → KeepsEvenFor old new
+keeps_even_for old new fewer keeps was is stood stands told told_new before after even = keeps was is stood stands told told_new (record { before = before; after = after; fewer = fewer }) even
+
+-- What a command leaves, as far as what stands on the disks goes on by it: their media is told, no write is open that wasn't, and its run and its epoch are as they were.
 pub record LeavesStanding (old new : State) : Type 0 where
   pub told : (was : Media) → old.device.media ≡ Some was → (is : Media) × (new.device.media ≡ Some is)
   pub calm : StaysCalm (moment_of old) (moment_of new)
   pub run_is : new.core.history.run ≡ old.core.history.run
   pub epoch : new.core.status.stamp.epoch ≡ old.core.status.stamp.epoch
-  pub stays : (d : ℕ) → IsTrue (calls_missing old.core.status.wanted d) → IsTrue (calls_missing new.core.status.wanted d)
 
 -- ---- where the session goes on
 
 module _ (run : ℕ) (first : Moment) (old new : State) (may : MayBeCommanded run first old) (began : IsSettled old.core) (leaves : LeavesStanding old new) where
-  module _ (on : IsSettled new.core) (still : StillHeld old new) (members : (d : ℕ) → is_member new.core.descriptor d ≡ is_member old.core.descriptor d) (even : KeepsEven old new)
+  module _ (on : IsSettled new.core) (still : StillHeld old new) (even : KeepsEvenFor old new)
       (enters : new.core.descriptor.lvs ≢ [] → old.core.descriptor.lvs ≡ [] → IsOneFoundOn old.device) (keeps : Keeps run first (moment_of new)) (whole : HasSectors new.device)
       (past : List Fact) (begins : RunBegins run past first) where
     holds : HistoryHolds past (moment_of new)
@@ -107,16 +114,13 @@ module _ (run : ℕ) (first : Moment) (old new : State) (may : MayBeCommanded ru
       abbrev held : Held new told.0
       held = of_told (λ (m : Media). Held new m) new.device.media told.0 told.1 (still.held held_before)
 
-      wanted : AreWanted old new it.held.shows.stands held.shows.stands
-      wanted = record { before = it.held.shows.committed ∙ began.committed; after = held.shows.committed ∙ on.committed; fewer = still_there old new members leaves.stays }
-
       carried : Carries new told.0
       carried = record {
         told = told.1;
         held = held;
         notes = of_told (λ (m : Media). NotesAreHome new.core (image_of new.device.sizes m)) new.device.media told.0 told.1 (still.notes (are_home old was it.told it.notes));
         only = still.only held_before it.only;
-        even = even was told.0 it.held.shows.stands held.shows.stands it.told told.1 wanted it.even;
+        even = even was told.0 it.held.shows.stands held.shows.stands it.told told.1 (it.held.shows.committed ∙ began.committed) (held.shows.committed ∙ on.committed) it.even;
       }
 
     carries_on : new.core.descriptor.lvs ≢ [] → (is : Media) × Carries new is
@@ -182,11 +186,10 @@ module _ (run : ℕ) (first : Moment) (old new : State) (may : MayBeCommanded ru
     calm = leaves.calm;
     run_is = ap (λ (l : Log). l.run) leaves.history.room;
     epoch = leaves.numbers.epoch;
-    stays = leaves.status.stays;
   }
 
   -- and where the session goes on
   pub left_standing : IsSettled new.core → StillHeld old new → ((d : ℕ) → is_member new.core.descriptor d ≡ is_member old.core.descriptor d) → KeepsEven old new
       → (new.core.descriptor.lvs ≢ [] → old.core.descriptor.lvs ≡ [] → IsOneFoundOn old.device) → Keeps run first (moment_of new) → HasSectors new.device
       → (past : List Fact) → RunBegins run past first → IsLeftStanding past new
-  left_standing = left_standing_by run first old new may began standing
+  left_standing on still members even = left_standing_by run first old new may began standing on still (keeps_even_for old new (still_there old new members leaves.status.stays) even)

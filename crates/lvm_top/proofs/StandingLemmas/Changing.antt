@@ -1,5 +1,5 @@
 -- What is found after a group was to change its rule of votes, or to become big: what was found before, or what was to be committed.
-use Rattle.std.proofs.Common.{◌≡◌, ◌⊎◌, inl, inr, ⊎_elim, ℕ, List, Bool, true, false, Option, IfSome, Some, Result, Ok, Err, refl, sym, ◌∙◌, ap, subst}
+use Rattle.std.proofs.Common.{◌≡◌, ◌⊎◌, inl, inr, ⊎_elim, ℕ, List, [], Bool, true, false, Option, IfSome, Some, Result, Ok, Err, refl, sym, ◌∙◌, ap, subst}
 use Rattle.std.specs.Prelude.{IsSomeAnd, MatchBool}
 use Rattle.lvm_num.specs.declared.descriptor.Descriptor.{Descriptor}
 use Rattle.lvm_parse.specs.declared.command.Command.{Command}
@@ -8,7 +8,7 @@ use Rattle.lvm_parse.specs.declared.rest.Misfit.{Misfit}
 use Rattle.lvm_core.specs.Leaves.{MayBeFound}
 use Rattle.lvm_session.specs.State.{Core, State}
 use Rattle.lvm_line.specs.passed.GroupLines.{IsBetween, IsBrokenOff, OfGroup, ScriptState, Reply}
-use Rattle.lvm_line.specs.passed.Members.{BigGives, NothingGives, RuleFault, RuleGives, as_big, ends_session, with_quorum}
+use Rattle.lvm_line.specs.passed.Members.{BigGives, IsNext, NothingGives, RuleFault, RuleGives, as_big, ends_session, with_quorum}
 use Rattle.lvm_line.specs.passed.ReplyVariants as reply
 use Rattle.lvm_line.specs.passed.RuleFaultVariants as fault
 use Rattle.lvm_line.specs.passed.VolumeLines.{Drains, IsChangeDone, ChvgQuorumDoes, NoGroupForChvgQuorum, BusyChvgQuorum, UndrainedChvgQuorum, SwitchesQuorum, ChvgQuorumFails, ChvgBigDoes, NoGroupForChvgBig, BusyChvgBig, UndrainedChvgBig, BecomesBig, ChvgBigFails, change_refusal}
@@ -46,31 +46,31 @@ big_id patience old new gives = by old.core.descriptor.big gives
 
 module _ (run : ℕ) (old new : ScriptState) (between : IsBetween old.moment old.session old.posts) (named : IfSome old.session (λ core. core.history.run ≡ run)) (stood : StoodBefore run OfGroup old new) where
   -- what it finds, whatever became of it
-  pub change_finds : {Gives : State → State → Type 0} {over : Bool} (next : Descriptor) (core : Core) (left : ℕ) (mid : State) → old.session ≡ Some core → Drains core old left mid → IsChangeDone next Gives over mid old new
-      → (id : ℕ) (k : Descriptor) → MayBeFound new.moment.device id k → MayBeFound old.moment.device id k ⊎ ((id ≡ k.id) × (k ≡ next))
-  change_finds next core left mid some drains done id k it = ⊎_elim
+  pub change_finds : {Gives : State → State → Type 0} {over : Bool} {joins erases : List ℕ} (N : Descriptor → Type 0) (core : Core) (left : ℕ) (mid : State) → old.session ≡ Some core → Drains core old left mid
+      → IsChangeDone N joins erases Gives over mid old new → (id : ℕ) (k : Descriptor) → MayBeFound new.moment.device id k → MayBeFound old.moment.device id k ⊎ ((id ≡ k.id) × N k)
+  change_finds N core left mid some drains done id k it = ⊎_elim
       (λ before. inl (drained_nothing run old new between named stood core left mid some drains id k before))
       (λ next. inr next)
       (done.finds (held_mid run old new between named stood core left mid some drains) id k it)
 
   -- ---- a command that changes the descriptor so
 
-  module _ (answer : Reply) (read : Result (Option Command) Misfit) (next : Descriptor → Descriptor) (its : (k : Descriptor) → IsSomeAnd old.session (λ core. k ≡ next core.descriptor) → IsToCommit read old new k) where
+  module _ (answer : Reply) (read : Result (Option Command) Misfit) (N : Descriptor → Descriptor → Type 0) (its : (k : Descriptor) → IsSomeAnd old.session (λ core. N core.descriptor k) → IsToCommit read old new k) where
     abbrev FoundByChange : Type 0
     FoundByChange = (id : ℕ) (k : Descriptor) → MayBeFound new.moment.device id k → MayBeFound old.moment.device id k ⊎ MayHaveCommitted read answer old new id k
 
     module _ (core : Core) (left : ℕ) (mid : State) (on : old.session ≡ Some core) (drains : Drains core old left mid) where
-      of_group : (k : Descriptor) → k ≡ next mid.core.descriptor → IsSomeAnd old.session (λ core. k ≡ next core.descriptor)
-      of_group k is = subst (λ (o : Option Core). IsSomeAnd o (λ core. k ≡ next core.descriptor)) (sym on) (is ∙ ap next (path_frames drains.runs).keeps.descriptor)
+      of_group : (k : Descriptor) → N mid.core.descriptor k → IsSomeAnd old.session (λ core. N core.descriptor k)
+      of_group k is = subst (λ (o : Option Core). IsSomeAnd o (λ core. N core.descriptor k)) (sym on) (subst (λ (g : Descriptor). N g k) (path_frames drains.runs).keeps.descriptor is)
 
-      tried_change : {Gives : State → State → Type 0} {over : Bool} → (answer ≡ reply.Ok) ⊎ IsBrokenOff answer → IsChangeDone (next mid.core.descriptor) Gives over mid old new → FoundByChange
+      pub tried_change : {Gives : State → State → Type 0} {over : Bool} {joins erases : List ℕ} → (answer ≡ reply.Ok) ⊎ IsBrokenOff answer → IsChangeDone (N mid.core.descriptor) joins erases Gives over mid old new → FoundByChange
       tried_change tried done id k it = ⊎_elim
           (λ before. inl before)
           (λ found. inr (record { tried = tried; own = found.0; is = its k (of_group k found.1) }))
-          (change_finds (next mid.core.descriptor) core left mid on drains done id k it)
+          (change_finds (N mid.core.descriptor) core left mid on drains done id k it)
 
       failed_change : (Gives : State → State → Type 0) (why : RuleFault) → (ends_session why ≡ false → (end : State) → Gives mid end → end ≡ mid) → answer ≡ reply.Refused (change_refusal why)
-          → IsChangeDone (next mid.core.descriptor) Gives (ends_session why) mid old new → FoundByChange
+          → IsChangeDone (N mid.core.descriptor) [] [] Gives (ends_session why) mid old new → FoundByChange
       failed_change Gives fault.Dark same says done id k it = tried_change (inr (subst IsBrokenOff (sym says) tt)) done id k it
       failed_change Gives (fault.WentOff have total) same says done id k it = tried_change (inr (subst IsBrokenOff (sym says) tt)) done id k it
       failed_change Gives fault.Stuck same says done id k it = tried_change (inr (subst IsBrokenOff (sym says) tt)) done id k it
@@ -87,9 +87,9 @@ module _ (run : ℕ) (old new : ScriptState) (between : IsBetween old.moment old
   chvg_quorum_finds answer on name (BusyChvgQuorum mine busy is) id k it = inl (same_nothing old.moment.device new.moment.device (ap (λ (s : ScriptState). s.moment.device) is.1) id k it)
   chvg_quorum_finds answer on name (UndrainedChvgQuorum core why some mine un) id k it = inl (undrained_nothing run old new between named stood core why answer some un id k it)
   chvg_quorum_finds answer on name (SwitchesQuorum core left mid some mine drains done says) id k it =
-      tried_change answer (Ok (Some (command.ChvgQuorum on name))) (with_quorum on) (λ k is. is) core left mid some drains (inl says) done id k it
+      tried_change answer (Ok (Some (command.ChvgQuorum on name))) (λ group. IsNext (with_quorum on group)) (λ k is. is) core left mid some drains (inl says) done id k it
   chvg_quorum_finds answer on name (ChvgQuorumFails core left mid why some mine drains done says) id k it =
-      failed_change answer (Ok (Some (command.ChvgQuorum on name))) (with_quorum on) (λ k is. is) core left mid some drains (λ was is. RuleGives (with_quorum on was.core.descriptor) left was is (Err why)) why
+      failed_change answer (Ok (Some (command.ChvgQuorum on name))) (λ group. IsNext (with_quorum on group)) (λ k is. is) core left mid some drains (λ was is. RuleGives (with_quorum on was.core.descriptor) left was is (Err why)) why
       (λ goes end gives. rule_refused (with_quorum on mid.core.descriptor) left mid end why goes gives) says done id k it
 
   pub chvg_big_finds : (answer : Reply) (name : List ℕ) → ChvgBigDoes name old new answer
@@ -98,7 +98,7 @@ module _ (run : ℕ) (old new : ScriptState) (between : IsBetween old.moment old
   chvg_big_finds answer name (BusyChvgBig mine busy is) id k it = inl (same_nothing old.moment.device new.moment.device (ap (λ (s : ScriptState). s.moment.device) is.1) id k it)
   chvg_big_finds answer name (UndrainedChvgBig core why some mine un) id k it = inl (undrained_nothing run old new between named stood core why answer some un id k it)
   chvg_big_finds answer name (BecomesBig core left mid some mine drains done says) id k it =
-      tried_change answer (Ok (Some (command.ChvgBig name))) as_big (λ k is. is) core left mid some drains (inl says) done id k it
+      tried_change answer (Ok (Some (command.ChvgBig name))) (λ group. IsNext (as_big group)) (λ k is. is) core left mid some drains (inl says) done id k it
   chvg_big_finds answer name (ChvgBigFails core left mid why some mine drains done says) id k it =
-      failed_change answer (Ok (Some (command.ChvgBig name))) as_big (λ k is. is) core left mid some drains (λ was is. BigGives left was is (Err why)) why
+      failed_change answer (Ok (Some (command.ChvgBig name))) (λ group. IsNext (as_big group)) (λ k is. is) core left mid some drains (λ was is. BigGives left was is (Err why)) why
       (λ goes end gives. big_refused left mid end why goes gives) says done id k it

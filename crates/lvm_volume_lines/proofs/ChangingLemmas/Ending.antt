@@ -1,5 +1,5 @@
 -- How a line ends by which the group is changed, from the session that has come to rest.
-use Rattle.std.proofs.Common.{◌≡◌, ◌≤◌, ⊎_elim, ℕ, Bool, true, false, [], Result, Ok, Err, refl, sym, subst, arith}
+use Rattle.std.proofs.Common.{◌≡◌, ◌≤◌, ⊎_elim, ℕ, Bool, true, false, List, [], Result, Ok, Err, refl, sym, subst, arith}
 use Rattle.std.specs.Prelude.{⊤, MatchBool}
 use Rattle.lvm_num.specs.declared.descriptor.Descriptor.{Descriptor}
 use Rattle.lvm_disk.specs.Device.{Device, HasSectors, IsReady}
@@ -19,12 +19,13 @@ use Rattle.lvm_range_lines.specs.passed.GroupLines.{EndsUnasked, most_refusals, 
 use Rattle.lvm_range_lines.specs.passed.RefusalVariants as refusal
 use Rattle.lvm_range_lines.specs.passed.ReplyVariants as reply
 use Rattle.lvm_range_lines.proofs.passed.GroupLines.{answered_bears, landed_bears}
-use Rattle.lvm_volume_lines.specs.passed.Members.{ChangeLeaves, IfOn, RuleFault, is_over}
+use Rattle.lvm_volume_lines.specs.passed.Members.{ChangeLeaves, IfOn, IsNext, RuleFault, is_over}
 use Rattle.lvm_volume_lines.specs.passed.RuleFaultVariants as fault
 use Rattle.lvm_volume_lines.specs.Changing.{IsChangeCarriedOut, IsChangeDone, change_reply}
 use Rattle.lvm_volume_lines.specs.Commands.{HasRested, IsLeftAs}
 use Rattle.lvm_volume_lines.proofs.Carrying.{IsCarried, at_mid, carried_ends, finds_no_more, left_either}
 use Rattle.lvm_volume_lines.proofs.Commanding.{Acts, ClosesWell, Promised, closes_dark, closes_lit, ready_mid}
+use Rattle.lvm_volume_lines.proofs.Ending.{rows_stay}
 use Rattle.lvm_volume_lines.proofs.ChangingLemmas.Giving.{ChangeFacts, IsKnownOfChange, cut_bears}
 
 -- ---- by the answer
@@ -80,8 +81,8 @@ one_answer (Ok done) = omega arith
 one_answer (Err why) = omega arith
 
 -- what a change promises, whatever its answer
-promised_by : (next : Descriptor) (before after : ℕ) (old new : State) → ChangeLeaves next before after old new → Promised old new
-promised_by next before after old new leaves = record {
+pub promised_by : (N : Descriptor → Type 0) (joins erases : List ℕ) (before after : ℕ) (old new : State) → ChangeLeaves N joins erases before after old new → Promised old new
+promised_by N joins erases before after old new leaves = record {
   orders = leaves.writes.orders;
   epoch = leaves.numbers.epoch;
   history = leaves.history;
@@ -113,7 +114,7 @@ module _ {S : Type 0} (device : S → Device) (stage : Stage S) (fits : IsFittin
     module _ (known : IsKnownOfChange patience mid left given)
         (goes_on : (first : Moment) → MayBeCommanded run first mid → Keeps run first (moment_of left) × IfOn given (IsLeftStandingSince run first left)) where
       promised : Promised mid left
-      promised = promised_by next patience done.after mid left done.changed.leaves
+      promised = promised_by (IsNext next) [] [] patience done.after mid left done.changed.leaves
 
       abbrev carried : IsCarried run (is_over given) (change_reply given) (device (shelf_in it)) mid left
       carried = record {
@@ -123,17 +124,17 @@ module _ {S : Type 0} (device : S → Device) (stage : Stage S) (fits : IsFittin
         few = one_answer given;
         landed = cut_bears HaveAllLanded landed_bears mid left known.enters rested.between.landed;
         answers = λ range was. cut_bears (λ facts. AreAnswered facts range) (answered_bears range) mid left known.enters was;
-        shape = known.shape;
+        rows = λ goes. rows_stay mid left (known.shape goes);
         spans = λ m may alone. (goes_on m may).0;
         stands = λ goes m may alone. if_on given (IsLeftStandingSince run m left) (goes_on m may).1 goes;
       }
 
-      is_done : (last : ℕ) → IsChangeDone next (λ was is. Gives was is given) (is_over given) mid (state_in device stage last) (state_in device it last)
+      is_done : (last : ℕ) → IsChangeDone (IsNext next) [] [] (λ was is. Gives was is given) (is_over given) mid (state_in device stage last) (state_in device it last)
       is_done last = record {
         left = left;
         gives = done.gives;
         leaves = left_either device stage fits between none patience driver rested role acts (is_over given) (change_reply given) [] done.left it done.is promised sectors carried (is_over given) refl last;
-        finds = finds_no_more device stage fits between none patience driver rested role acts (is_over given) (change_reply given) [] done.left it done.is promised sectors carried (λ k. k ≡ next) done.changed.leaves.finds last;
+        finds = finds_no_more device stage fits between none patience driver rested role acts (is_over given) (change_reply given) [] done.left it done.is promised sectors carried (IsNext next) done.changed.leaves.finds last;
         status = done.changed.leaves.status;
         writes = done.changed.leaves.writes;
         held = λ goes. (if_on given (StillHeld mid left) done.changed.still goes).held;
@@ -143,7 +144,7 @@ module _ {S : Type 0} (device : S → Device) (stage : Stage S) (fits : IsFittin
 
       -- the line ends so, by what it does
       pub change_ends_so : (Does : Log → ScriptState → ScriptState → Reply → Type 0)
-          → ((last : ℕ) → IsChangeDone next (λ was is. Gives was is given) (is_over given) mid (state_in device stage last) (state_in device it last)
+          → ((last : ℕ) → IsChangeDone (IsNext next) [] [] (λ was is. Gives was is given) (is_over given) mid (state_in device stage last) (state_in device it last)
           → Does (without_facts (history_in stage)) (state_in device stage last) (state_in device it last) (change_reply given))
           → EndsUnasked device Does ⊥ role stage it answer
       change_ends_so Does does = carried_ends device stage fits between none patience driver rested role acts (is_over given) (change_reply given) [] done.left it done.is promised sectors carried Does (λ last. does last (is_done last)) answer done.says

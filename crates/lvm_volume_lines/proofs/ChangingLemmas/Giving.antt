@@ -33,7 +33,7 @@ pub data EntersCut (old new : State) : Type 0 where
   NothingEntered : new.core.history ≡ old.core.history → EntersCut old new
   CutEntered : new.core.history ≡ cut_log old.core.history → EntersCut old new
 
-cut_entered : (a b : State) → HasNoneOpen a.core → HasGoneDark a b → b.core.history ≡ cut_log a.core.history
+pub cut_entered : (a b : State) → HasNoneOpen a.core → HasGoneDark a b → b.core.history ≡ cut_log a.core.history
 cut_entered a b none dark = ap (λ (c : Core). c.history) (dark.is ∙ dark_is (record a.core { pool = with_one_out a.core.pool; status = b.core.status; homes = b.core.homes }) (record { requests = none.requests; copy = none.copy }))
 
 -- what is known of it

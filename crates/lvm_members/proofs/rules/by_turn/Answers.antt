@@ -13,14 +13,14 @@ make_change-driver-requires-clause-numbers g c = has_numbers c.args.driver.1 c.r
 
 pub answer_of-told-requires : goal.answer_of-told-requires
 answer_of-told-requires g c =
-    only_records c.args.next.records.next c.args.patience.now.left (state (g.S.Shelf.device c.args.driver.0) c.args.driver.1) (state (g.S.Shelf.device c.make_change-driver.result.0.0) c.make_change-driver.result.0.1) c.make_change-driver.result.1
+    only_records c.args.next.next c.args.patience.now.left (state (g.S.Shelf.device c.args.driver.0) c.args.driver.1) (state (g.S.Shelf.device c.make_change-driver.result.0.0) c.make_change-driver.result.0.1) c.make_change-driver.result.1
     c.make_change-driver.ensures.ends
 
 pub returns : goal.returns
 returns g c =
     let old : State = state (g.S.Shelf.device c.args.driver.0) c.args.driver.1 in
     let new : State = state (g.S.Shelf.device c.make_change-driver.result.0.0) c.make_change-driver.result.0.1 in
-    let next : Descriptor = c.args.next.records.next in
+    let next : Descriptor = c.args.next.next in
     let p : ℕ = c.args.patience.now.left in
     let q : ℕ = c.make_change-driver.new.patience.left in
     let e = c.make_change-driver.ensures in

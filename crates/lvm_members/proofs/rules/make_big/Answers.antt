@@ -1,10 +1,10 @@
-use Rattle.std.proofs.Common.{◌≡◌, ℕ, Bool, true, false, sym, subst, ◌∙◌, ap}
+use Rattle.std.proofs.Common.{◌≡◌, ℕ, Bool, true, false, sym, subst, ◌∙◌, ap, []}
 use Rattle.std.specs.Prelude.{MatchBool, Err}
 use Rattle.lvm_num.specs.declared.descriptor.Descriptor.{Descriptor}
 use Rattle.lvm_session.specs.State.{State, state}
 use Rattle.lvm_core.specs.Settled.{IsSettled}
 use Rattle.lvm_change.specs.Rule.{as_big}
-use Rattle.lvm_turnover.specs.Changing.{ChangeLeaves}
+use Rattle.lvm_turnover.specs.Changing.{IsNext, ChangeLeaves}
 use Rattle.lvm_volumes.specs.Endings.{StillHeld, KeepsFresh}
 use Rattle.lvm_volumes.proofs.EndingsLemmas.Fresh.{keeps_none}
 use Rattle.lvm_volumes.proofs.EndingsLemmas.Holding.{still_none}
@@ -41,7 +41,7 @@ returns-in-Ok-Turn g c =
       settled = λ takes. e.settled;
       held = e.held;
       fresh = e.fresh;
-      leaves = subst (λ (d : Descriptor). ChangeLeaves d p q old new) planned.2 e.leaves;
+      leaves = subst (λ (d : Descriptor). ChangeLeaves (IsNext d) [] [] p q old new) planned.2 e.leaves;
     }
 
 pub returns-in-Ok-Same : goal.returns-in-Ok-Same
@@ -58,7 +58,7 @@ returns-in-Ok-Same g c =
       settled = λ takes. e.settled;
       held = e.held;
       fresh = e.fresh;
-      leaves = subst (λ (d : Descriptor). ChangeLeaves d p q old new) planned.2 e.leaves;
+      leaves = subst (λ (d : Descriptor). ChangeLeaves (IsNext d) [] [] p q old new) planned.2 e.leaves;
     }
 
 pub returns-in-Err : goal.returns-in-Err

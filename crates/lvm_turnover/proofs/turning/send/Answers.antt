@@ -1,5 +1,6 @@
 use Rattle.std.proofs.Common.{◌≡◌, ℕ, ◌+◌, ◌<◌, ◌^◌, sym, ap, subst, ◌∙◌, arith}
 use Rattle.lvm_num.specs.declared.record.Stamp.{Stamp}
+use Rattle.lvm_num.specs.declared.descriptor.Descriptor.{Descriptor}
 use Rattle.lvm_num.specs.Disks.{has}
 use Rattle.lvm_disk.specs.Device.{Device}
 use Rattle.lvm_rec.specs.declared.homes.Homes.{Homes}
@@ -7,9 +8,8 @@ use Rattle.lvm_commit.specs.Committed.{next_stamp}
 use Rattle.lvm_session.specs.declared.session.Session.{Session}
 use Rattle.lvm_session.specs.Fields.{core_of}
 use Rattle.lvm_session.specs.State.{state}
-use Rattle.lvm_change.specs.Records.{IsTurnBy}
 use Rattle.lvm_change.specs.Turn.{MayTurn, TurnGives}
-use Rattle.lvm_turnover.specs.Turning.{after_turn}
+use Rattle.lvm_turnover.specs.Turning.{IsTurnBy, after_turn}
 use Rattle.lvm_turnover.proofs.SendingLemmas.{may_turn, sent_core}
 use Rattle.lvm_turnover.proofs.turning.send.Goals as goal
 
@@ -35,10 +35,11 @@ turn_over-requires g c =
     let stamp_is : c.stamp-stamp.result ≡ self.updater.stamp = c.stamp-stamp.ensures ∙ ap (λ (s : Session). s.updater.stamp) c.take_buffer-buf.ensures.taken in
     let bound : c.stamp-stamp.result.epoch < 2 ^ 64 = omega arith in
     let low : self.updater.stamp.epoch < 2 ^ 64 = subst (λ (x : Stamp). x.epoch < 2 ^ 64) stamp_is bound in
-    let by : IsTurnBy c.args.records.now self.descriptor c.turn.result = subst (λ (s : Session). IsTurnBy c.args.records.now s.descriptor c.turn.result) c.take_buffer-buf.ensures.taken c.turn.ensures in
+    let was : c.spell_status-count.new.session.descriptor ≡ self.descriptor = ap (λ (s : Session). s.descriptor) c.spell_status-count.ensures.same ∙ ap (λ (s : Session). s.descriptor) c.take_buffer-buf.ensures.taken in
+    let by : IsTurnBy c.args.change.now self.descriptor c.turn_by-turn.result = subst (λ (d : Descriptor). IsTurnBy c.args.change.now d c.turn_by-turn.result) was c.turn_by-turn.ensures in
     record {
-      may = subst (λ (x : Stamp). MayTurn c.turn.result (has c.args.there) x (g.S.Shelf.device c.args.shelf.now)) (sym stamp_is)
-          (may_turn c.args.records.now (has c.args.there) (state (g.S.Shelf.device c.args.shelf.now) (core_of self)) c.requires.may c.turn.result by low);
+      may = subst (λ (x : Stamp). MayTurn c.turn_by-turn.result (has c.args.there) x (g.S.Shelf.device c.args.shelf.now)) (sym stamp_is)
+          (may_turn c.args.change.now (has c.args.there) (state (g.S.Shelf.device c.args.shelf.now) (core_of self)) c.requires.may c.turn_by-turn.result by low);
     }
 
 pub returns-clause-sent : goal.returns-clause-sent
@@ -53,11 +54,14 @@ returns-clause-sent g c =
     let p : ℕ = c.args.patience.now.left in
     let q : ℕ = c.turn_over.new.patience.left in
     let homes : Homes = c.turn_over.new.homes in
-    let one = subst (λ (x : Stamp). TurnGives c.turn.result (has c.args.there) x taken.homes homes c.take_buffer-buf.result.number p q old new c.turn_over.result) stamp_is c.turn_over.ensures in
-    let two = subst (λ (s : Session). TurnGives c.turn.result (has c.args.there) self.updater.stamp s.homes homes c.take_buffer-buf.result.number p q old new c.turn_over.result) taken_is one in
+    let spelled = c.spell_status-count.new.session in
+    let spelled_is = c.spell_status-count.ensures.same in
+    let zero = subst (λ (s : Session). TurnGives c.turn_by-turn.result (has c.args.there) c.stamp-stamp.result s.homes homes c.take_buffer-buf.result.number p q old new c.turn_over.result) spelled_is c.turn_over.ensures in
+    let one = subst (λ (x : Stamp). TurnGives c.turn_by-turn.result (has c.args.there) x taken.homes homes c.take_buffer-buf.result.number p q old new c.turn_over.result) stamp_is zero in
+    let two = subst (λ (s : Session). TurnGives c.turn_by-turn.result (has c.args.there) self.updater.stamp s.homes homes c.take_buffer-buf.result.number p q old new c.turn_over.result) taken_is one in
     record {
-      turn = c.turn.result;
-      by = subst (λ (s : Session). IsTurnBy c.args.records.now s.descriptor c.turn.result) taken_is c.turn.ensures;
-      gives = subst (λ (n : ℕ). TurnGives c.turn.result (has c.args.there) self.updater.stamp self.homes homes n p q old new c.turn_over.result) c.take_buffer-buf.ensures.number two;
-      is = sent_core self taken c.set_stamp.new.self homes c.next_stamp-last.result taken_is c.set_stamp.ensures last_is;
+      turn = c.turn_by-turn.result;
+      by = subst (λ (d : Descriptor). IsTurnBy c.args.change.now d c.turn_by-turn.result) (ap (λ (s : Session). s.descriptor) spelled_is ∙ ap (λ (s : Session). s.descriptor) taken_is) c.turn_by-turn.ensures;
+      gives = subst (λ (n : ℕ). TurnGives c.turn_by-turn.result (has c.args.there) self.updater.stamp self.homes homes n p q old new c.turn_over.result) c.take_buffer-buf.ensures.number two;
+      is = ap (λ (s : Session). core_of (record s { homes = homes })) spelled_is ∙ sent_core self taken c.set_stamp.new.self homes c.next_stamp-last.result taken_is c.set_stamp.ensures last_is;
     }

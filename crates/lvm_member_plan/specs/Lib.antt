@@ -1,0 +1,3 @@
+pub mod Descriptors
+pub mod Refusals
+pub mod Steps
