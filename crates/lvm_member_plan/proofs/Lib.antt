@@ -1,4 +1,3 @@
 pub mod ValidityLemmas
 pub mod NeighbourLemmas
 pub mod StepsLemmas
-pub mod LastLemmas

@@ -1,3 +1,2 @@
 pub mod Descriptors
-pub mod Refusals
 pub mod Steps

@@ -1,4 +1,0 @@
-pub mod ChainLemmas
-pub mod HoldingLemmas
-pub mod OffLemmas
-pub mod StepLemmas
