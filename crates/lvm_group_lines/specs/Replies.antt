@@ -1,7 +1,7 @@
 -- The texts of replies.
 use Rattle.std.specs.Prelude.{◌≡◌, ℕ, Bool, true, false, List, [], codes}
 use Rattle.lvm_show.specs.Refusals.{refusal_text}
-use Rattle.lvm_show.specs.Texts.{stepped_text, synced_text}
+use Rattle.lvm_show.specs.Texts.{migrated_text, stepped_text, synced_text}
 use Rattle.lvm_group_lines.specs.Refusals.{shown}
 use Rattle.lvm_group_lines.specs.State.{ScriptState}
 use Rattle.lvm_group_lines.specs.declared.reply.Refusal.{Refusal}
@@ -16,6 +16,7 @@ reply_text reply.Ok = codes "ok\n"
 reply_text reply.Posted = codes "posted\n"
 reply_text (reply.Stepped turns) = stepped_text turns
 reply_text (reply.Synced made) = synced_text made
+reply_text (reply.Migrated moved) = migrated_text moved
 reply_text (reply.Lines text) = text
 reply_text (reply.Answers text refused) = text
 reply_text (reply.Refused why) = refusal_text (shown why)
@@ -30,6 +31,7 @@ refusals_of _ = 0
 abbrev pub most_refusals : Reply → ℕ
 most_refusals (reply.Stepped turns) = 1
 most_refusals (reply.Synced made) = 1
+most_refusals (reply.Migrated moved) = 1
 most_refusals other = refusals_of other
 
 -- nothing was heard of a transfer, and the run ends

@@ -77,6 +77,8 @@ pub enum Refusal {
     Missing { disk: u16 },
     /// 32: so many requests are open, and there isn't room for those of the line.
     TableFull { held: u32 },
+    /// 35: another copy of this logical partition, counted from 0, stands on the disk to which one would move.
+    Strict { lp: u32 },
     /// 36: of this logical partition, counted from 0, a copy that would become one of another volume can't be used.
     StaleCopy { lp: u32 },
 }
@@ -94,6 +96,8 @@ pub enum Reply {
     Stepped(u32),
     /// `synced`, and how many copies were made fresh.
     Synced(u32),
+    /// `migrated`, and how many copies have moved.
+    Migrated(u32),
     /// The lines of a listing, or of the blocks that were read.
     Lines(Text),
     /// The lines of a `wait`: of each post how it ended, and `ok`. So many of them are refusals.
@@ -164,6 +168,7 @@ fn shown(refusal: &Refusal) -> lvm_show::Refusal
         Refusal::Busy => (30, Carried::Nothing),
         Refusal::Missing { disk } => (31, Carried::Disk(*disk)),
         Refusal::TableFull { held } => (32, Carried::Number(u64::from(*held))),
+        Refusal::Strict { lp } => (35, Carried::Lp(*lp)),
         Refusal::StaleCopy { lp } => (36, Carried::Lp(*lp)),
     };
     lvm_show::Refusal { number, carried }

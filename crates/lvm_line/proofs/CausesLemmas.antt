@@ -3,6 +3,7 @@ pub mod Turns
 pub mod Faulting
 pub mod Changing
 pub mod Causing
+pub mod Votes
 pub mod Requesting
 pub mod Sources
 pub mod Landing

@@ -5,3 +5,4 @@ pub mod Varyon
 pub mod Tie
 pub mod GroupLines
 pub mod RangeLines
+pub mod MoveLines

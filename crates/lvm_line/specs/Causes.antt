@@ -124,6 +124,7 @@ HasCause (Ok (Some (command.Post name at count word))) why old new = TurnCause w
 HasCause (Ok (Some command.Wait)) why old new = TurnCause why old new
 HasCause (Ok (Some (command.SyncVolume name))) why old new = TurnCause why old new
 HasCause (Ok (Some (command.SyncGroup name))) why old new = TurnCause why old new
+HasCause (Ok (Some (command.Migratepv volume from to))) why old new = TurnCause why old new
 HasCause (Ok (Some (command.Step turns))) why old new = TurnCause why old new
 HasCause read why old new = CauseOf read why old new
 

@@ -20,6 +20,7 @@ use Rattle.lvm_volume_lines.specs.Copies.{MklvcopyDoes, RmlvcopyDoes}
 use Rattle.lvm_volume_lines.specs.Splitting.{SplitlvcopyDoes}
 use Rattle.lvm_volume_lines.specs.Resyncing.{SyncGroupDoes, SyncVolumeDoes}
 use Rattle.lvm_volume_lines.specs.Volumes.{MklvDoes, RmlvDoes, wanted}
+use Rattle.lvm_move_lines.specs.Moving.{MigratepvDoes}
 use Rattle.lvm_volume_lines.specs.passed.RefusalVariants as refusal
 use Rattle.lvm_volume_lines.specs.passed.ReplyVariants as reply
 
@@ -46,6 +47,7 @@ CommandDoes log room (command.Post name at count word) old new answer = PostDoes
 CommandDoes log room command.Wait old new answer = WaitDoes old new answer
 CommandDoes log room (command.SyncVolume name) old new answer = SyncVolumeDoes name old new answer
 CommandDoes log room (command.SyncGroup name) old new answer = SyncGroupDoes name old new answer
+CommandDoes log room (command.Migratepv volume from to) old new answer = MigratepvDoes volume from to old new answer
 CommandDoes log room (command.Step turns) old new answer = StepDoes turns old new answer
 CommandDoes log room (command.Lslv name) old new answer = IsListed old new (VolumeShows name old.session answer)
 CommandDoes log room (command.Lspv disk) old new answer = IsListed old new (DiskShows disk (length old.moment.device.sizes) old.session answer)
@@ -77,6 +79,7 @@ role_of (Ok (Some (command.Post name at count word))) = OfRequests
 role_of (Ok (Some command.Wait)) = OfRequests
 role_of (Ok (Some (command.SyncVolume name))) = OfRequests
 role_of (Ok (Some (command.SyncGroup name))) = OfRequests
+role_of (Ok (Some (command.Migratepv volume from to))) = OfRequests
 role_of (Ok (Some (command.Step turns))) = OfRequests
 role_of other = Aside
 
@@ -97,6 +100,7 @@ IsLeftToDo (Ok (Some (command.Lspv disk))) = ⊥
 IsLeftToDo (Ok (Some (command.Rd name at count))) = ⊥
 IsLeftToDo (Ok (Some (command.Wr name at count word))) = ⊥
 IsLeftToDo (Ok (Some (command.Post name at count word))) = ⊥
+IsLeftToDo (Ok (Some (command.Migratepv volume from to))) = ⊥
 IsLeftToDo (Ok (Some (command.Step turns))) = ⊥
 IsLeftToDo (Ok (Some (command.SyncVolume name))) = ⊥
 IsLeftToDo (Ok (Some (command.SyncGroup name))) = ⊥

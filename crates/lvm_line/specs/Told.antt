@@ -79,6 +79,7 @@ ToldCause (Ok (Some command.Wait)) (reply.Answers text refused) old new = TellsF
 ToldCause (Ok (Some (command.Rd name at count))) answer old new = PostsEndForCause old new
 ToldCause (Ok (Some (command.Wr name at count word))) answer old new = PostsEndForCause old new
 ToldCause (Ok (Some (command.Step turns))) answer old new = PostsEndForCause old new
+ToldCause (Ok (Some (command.Migratepv volume from to))) answer old new = PostsEndForCause old new
 ToldCause (Ok (Some (command.SyncVolume name))) answer old new = PostsEndForCause old new
 ToldCause (Ok (Some (command.SyncGroup name))) answer old new = PostsEndForCause old new
 ToldCause (Ok (Some (command.Cut word))) answer old new = PostsEndForCause old new

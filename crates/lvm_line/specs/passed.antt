@@ -2,6 +2,7 @@ pub mod Group
 pub mod GroupLines
 pub mod HolderVariants
 pub mod Members
+pub mod MoveLines
 pub mod Names
 pub mod Quiesce
 pub mod QuiescedVariants

@@ -10,6 +10,7 @@ ghost use Rattle.lvm_volume_lines.specs.passed.GroupLines.{IsBetweenStage, IsFit
 use lvm_core::Room;
 use lvm_disk::{Arrange, Shelf};
 use lvm_io::Clock;
+use lvm_move_lines::do_migratepv;
 use lvm_parse::{Command, ParseFault, parse};
 use lvm_volume_lines::below::disk_lines::{do_arrange, do_cut, do_read, do_write};
 use lvm_volume_lines::below::group_lines::{
@@ -113,6 +114,11 @@ fn do_command<S: Shelf, C: Clock>(
             let reply = do_step(&mut stage, turns);
             stage.left(reply)
         }
+        Command::Migratepv { volume, from, to } => {
+            let mut stage = stage;
+            let reply = do_migratepv(alloc, &mut stage, volume, from, to);
+            stage.left(reply)
+        }
         Command::SyncVolume { name } => {
             let mut stage = stage;
             let reply = do_sync_volume(&mut stage, name);
@@ -184,6 +190,9 @@ fn serve<S: Shelf>(alloc: Global, stage: &mut Stage<S>, command: Command) -> Opt
             word,
         } => Some(do_post(stage, name, at, count, word)),
         Command::Step { turns } => Some(do_step(stage, turns)),
+        Command::Migratepv { volume, from, to } => {
+            Some(do_migratepv(alloc, stage, volume, from, to))
+        }
         Command::SyncVolume { name } => Some(do_sync_volume(stage, name)),
         Command::SyncGroup { name } => Some(do_sync_group(stage, name)),
         Command::Fail { disk } => Some(do_arrange(stage, disk, Arrange::Fail(disk))),
@@ -215,7 +224,7 @@ fn behind<S: Shelf>(stage: &Stage<S>, reply: Reply) -> InPlace
 }
 
 /// Does a line, without its line feed, where the stage stays: one without a command, one that isn't in the language, a
-/// listing, a range of a volume that is read, written or posted, turns that are made, copies that are brought up, and a
+/// listing, a range of a volume that is read, written or posted, turns that are made, copies that are brought up or moved, and a
 /// disk that is made to fail or to heal. Other commands are left to `do_line`.
 pub fn answer_line<S: Shelf>(alloc: Global, stage: &mut Stage<S>, line: &[u8]) -> InPlace
     requires between { IsBetweenStage S.device stage.old }

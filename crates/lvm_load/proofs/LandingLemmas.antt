@@ -59,7 +59,7 @@ use Rattle.lvm_load.specs.Totals.{entries_since, is_of}
 
 -- ---- entries
 
-append_all : (P : Fact → Type 0) (xs ys : List Fact) → AllByRecursion P xs → AllByRecursion P ys → AllByRecursion P (xs ++ ys)
+pub append_all : (P : Fact → Type 0) (xs ys : List Fact) → AllByRecursion P xs → AllByRecursion P ys → AllByRecursion P (xs ++ ys)
 append_all P [] ys all more = more
 append_all P (x ∷ xs) ys all more = (all.0, append_all P xs ys all.1 more)
 
@@ -236,7 +236,7 @@ module _ (old new : State) (sound : IsSound old) (none : AnyFailedSince old → 
   arrange_enters true is = absurd (lit (ap (λ (c : Core). c.power) is))
   arrange_enters false is = same_core is
 
-  step_enters : AnyStep old new → Enters
+  pub step_enters : AnyStep old new → Enters
   step_enters (Runs it) = run_enters it
   step_enters (OpensCopy lv lp number (Ok done) unstuck gives same) = still (ap (λ (c : Core). c.history.facts) (opened_so _ old.core new.core lv lp number gives).1.is)
   step_enters (OpensCopy lv lp number (Err why) unstuck gives same) = same_core (refused_for _ old.core new.core lv lp number why gives).1

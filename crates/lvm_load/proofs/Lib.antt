@@ -7,6 +7,8 @@ pub mod LandingLemmas
 pub mod BringingLemmas
 pub mod LendingLemmas
 pub mod LoadingLemmas
+pub mod MovingFramesLemmas
+pub mod MovingLandingLemmas
 pub mod SettlingLemmas
 pub mod WaitingLemmas
 pub mod RequestsLemmas

@@ -4,6 +4,8 @@ pub mod Landing
 pub mod Leaving
 pub mod Lending
 pub mod Loading
+pub mod MovingFrames
+pub mod MovingLanding
 pub mod Requests
 pub mod Serving
 pub mod Settling

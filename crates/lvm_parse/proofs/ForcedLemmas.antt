@@ -4,7 +4,7 @@ use Rattle.std.specs.Prelude.{◌==◌, ◌+◌, ◌-◌, codes, bytes_eq}
 use Rattle.std.proofs.lemmas.Bool.{and_parts}
 use Rattle.std.proofs.lemmas.List.{append_assoc}
 use Rattle.std.proofs.lemmas.Slice.Eq.{bytes_eq-Decides}
-use Rattle.lvm_parse.specs.Words.{name_in, size_in, disk_in, word_in, partition_count_in, turns_in, copy_count_in, switch_in}
+use Rattle.lvm_parse.specs.Words.{name_in, size_in, disk_in, word_in, partition_count_in, turns_in, copy_count_in, switch_in, other_disk_in}
 use Rattle.lvm_parse.specs.declared.rest.Misfit.{Misfit}
 use Rattle.lvm_parse.specs.Bytes.{is_remark, unreadable_at}
 use Rattle.lvm_parse.specs.Line.{WordAt, Left, finished, words_from, left_at}
@@ -15,7 +15,7 @@ use Rattle.lvm_parse.proofs.OptionsReadingLemmas.{mapped}
 use Rattle.lvm_num.specs.Among.{IsOneOf}
 use Rattle.lvm_parse.specs.declared.command.Command.{Command}
 use Rattle.lvm_parse.specs.declared.command.Command.TheVariants as command
-use Rattle.lvm_parse.specs.Grammar.{Row, rows, rule, rd_disk, rd_volume, rd, wr_disk, wr_volume, wr, post, wait, step, lspv, fail, heal, cut, cut_of, mkvg, varyonvg, varyoffvg, lsvg, chvg_quorum, chvg_big, chvg, mklv, rmlv, mklvcopy, rmlvcopy, split_of, splitlvcopy, sync_group, syncvg, lslv, line_of_words, readable, line_of}
+use Rattle.lvm_parse.specs.Grammar.{Row, rows, rule, rd_disk, rd_volume, rd, wr_disk, wr_volume, wr, post, wait, step, lspv, fail, heal, cut, cut_of, mkvg, varyonvg, varyoffvg, lsvg, chvg_quorum, chvg_big, chvg, mklv, rmlv, mklvcopy, rmlvcopy, split_of, splitlvcopy, moved_between, moved_of, migratepv, sync_group, syncvg, lslv, line_of_words, readable, line_of}
 use Rattle.lvm_parse.specs.Forced.{SpellsForce}
 
 -- ---- the words
@@ -163,6 +163,16 @@ splitlvcopy_forces : (l : Left) → Forces l.words (splitlvcopy l)
 unfolding Forces
 splitlvcopy_forces l = if_forces l.words (option (codes "-y") l).0 _ _ (split_of_forces l.words (option (codes "-y") l).1) tt
 
+moved_between_forces : (words : List WordAt) (volume : Option (List ℕ)) (l : Left) → Forces words (moved_between volume l)
+unfolding Forces
+moved_between_forces words volume l = then_forces words (operand disk_in l) _ (λ from f. then_forces words (last (other_disk_in from.0) from.1) _ (λ to t. tt))
+
+moved_of_forces : (words : List WordAt) (l : Left) → Forces words (moved_of l)
+moved_of_forces words l = then_forces words (operand name_in l) _ (λ name n. moved_between_forces words (Some name.0) name.1)
+
+migratepv_forces : (l : Left) → Forces l.words (migratepv l)
+migratepv_forces l = if_forces l.words (option (codes "-l") l).0 _ _ (moved_of_forces l.words (option (codes "-l") l).1) (moved_between_forces l.words None (option (codes "-l") l).1)
+
 cut_forces : (l : Left) → Forces l.words (cut l)
 unfolding Forces
 cut_forces l = go l.words
@@ -232,7 +242,7 @@ RowsForce [] = Unit {0}
 RowsForce (r ∷ rs) = ((l : Left) → Forces l.words (r.reads l)) × RowsForce rs
 
 rows_force : RowsForce rows
-rows_force = (mkvg_forces, (varyonvg_forces, (varyoffvg_forces, (lsvg_forces, (chvg_forces, (mklv_forces, (rmlv_forces, (mklvcopy_forces, (rmlvcopy_forces, (splitlvcopy_forces, (syncvg_forces, (lslv_forces, (rd_forces, (wr_forces, (post_forces, (wait_forces, (step_forces, (lspv_forces, (fail_forces, (heal_forces, (cut_forces, tt)))))))))))))))))))))
+rows_force = (mkvg_forces, (varyonvg_forces, (varyoffvg_forces, (lsvg_forces, (chvg_forces, (mklv_forces, (rmlv_forces, (mklvcopy_forces, (rmlvcopy_forces, (splitlvcopy_forces, (migratepv_forces, (syncvg_forces, (lslv_forces, (rd_forces, (wr_forces, (post_forces, (wait_forces, (step_forces, (lspv_forces, (fail_forces, (heal_forces, (cut_forces, tt))))))))))))))))))))))
 
 rule_forces : (rs : List Row) (word : List ℕ) (column : ℕ) (l : Left) → RowsForce rs → Forces l.words (rule rs word column l)
 unfolding Forces

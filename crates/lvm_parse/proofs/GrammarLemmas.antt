@@ -11,11 +11,11 @@ use Rattle.lvm_parse.specs.declared.command.Command.TheVariants as command
 use Rattle.lvm_parse.specs.declared.rest.Misfit.{Misfit}
 use Rattle.lvm_parse.specs.Bytes.{is_plain, is_remark, too_long_or, unreadable_at}
 use Rattle.lvm_parse.specs.Line.{WordAt, Left, finished, words_from, left_at}
-use Rattle.lvm_parse.specs.Words.{number_in, count_in, partition_count_in, turns_in, copy_count_in, word_in, name_in, disk_in, switch_in}
+use Rattle.lvm_parse.specs.Words.{number_in, count_in, partition_count_in, turns_in, copy_count_in, word_in, name_in, disk_in, other_disk_in, switch_in}
 use Rattle.lvm_parse.specs.declared.range.BlockRange.{BlockRange}
 use Rattle.lvm_parse.specs.Reading.{misfit, then_, or_misfit, column_of, next_column, operand_of, operand, option_of, option, ends_of, ends, last, is_next, blocks, last_blocks, Choice, NoOption, Alone, Valued, options_of, options, required, further_disk, one_or_more, disks_of, disks}
 use Rattle.lvm_parse.specs.Options.{mkvg_choice, no_mkvg_options, mklv_choice, no_mklv_options}
-use Rattle.lvm_parse.specs.Grammar.{rd_disk, rd_volume, rd, wr_disk, wr_volume, wr, post, wait, step, fail, heal, lspv, cut_of, cut, mkvg, varyonvg, varyoffvg, lsvg, chvg_quorum, chvg_big, chvg, mklv, rmlv, mklvcopy, rmlvcopy, split_of, splitlvcopy, sync_group, syncvg, lslv, Row, rows, rule, line_of_words, readable, line_of}
+use Rattle.lvm_parse.specs.Grammar.{rd_disk, rd_volume, rd, wr_disk, wr_volume, wr, post, wait, step, fail, heal, lspv, cut_of, cut, mkvg, varyonvg, varyoffvg, lsvg, chvg_quorum, chvg_big, chvg, mklv, rmlv, mklvcopy, rmlvcopy, split_of, splitlvcopy, moved_between, moved_of, migratepv, sync_group, syncvg, lslv, Row, rows, rule, line_of_words, readable, line_of}
 
 -- a column from 1 to this one
 abbrev pub IsIn : ℕ → ℕ → Type 0
@@ -235,6 +235,19 @@ splitlvcopy_in high l b = at (option (codes "-y") l) (option_is_in high (codes "
     at (true, k) b = split_of_in high k b
     at (false, k) b = next_is_in high k.words k.end b.0 b.1
 
+moved_between_in : (high : ℕ) (volume : Option (List ℕ)) (l : Left) → LeftIn high l → In high (moved_between volume l)
+moved_between_in high volume l b = operand_then high disk_in l b _ (λ from b. last_then high (other_disk_in from.0) from.1 b (command.Migratepv volume from.0))
+
+moved_of_in : (high : ℕ) (l : Left) → LeftIn high l → In high (moved_of l)
+moved_of_in high l b = operand_then high name_in l b _ (λ name b. moved_between_in high (Some name.0) name.1 b)
+
+migratepv_in : (high : ℕ) (l : Left) → LeftIn high l → In high (migratepv l)
+migratepv_in high l b = at (option (codes "-l") l) (option_is_in high (codes "-l") l b)
+  where
+    at : (named : Bool × Left) → LeftIn high named.1 → In high (cond named.0 (moved_of named.1) (moved_between None named.1))
+    at (true, k) b = moved_of_in high k b
+    at (false, k) b = moved_between_in high None k b
+
 lspv_in : (high : ℕ) (l : Left) → LeftIn high l → In high (lspv l)
 lspv_in high l b = last_then high disk_in l b command.Lspv
 
@@ -306,7 +319,7 @@ RowsAreIn [] = ⊤
 RowsAreIn (r ∷ rs) = ((high : ℕ) (l : Left) → LeftIn high l → In high (r.reads l)) × RowsAreIn rs
 
 rows_in : RowsAreIn rows
-rows_in = (mkvg_in, (varyonvg_in, (varyoffvg_in, (lsvg_in, (chvg_in, (mklv_in, (rmlv_in, (mklvcopy_in, (rmlvcopy_in, (splitlvcopy_in, (syncvg_in, (lslv_in, (rd_in, (wr_in, (post_in, (wait_in, (step_in, (lspv_in, (fail_in, (heal_in, (cut_in, tt)))))))))))))))))))))
+rows_in = (mkvg_in, (varyonvg_in, (varyoffvg_in, (lsvg_in, (chvg_in, (mklv_in, (rmlv_in, (mklvcopy_in, (rmlvcopy_in, (splitlvcopy_in, (migratepv_in, (syncvg_in, (lslv_in, (rd_in, (wr_in, (post_in, (wait_in, (step_in, (lspv_in, (fail_in, (heal_in, (cut_in, tt))))))))))))))))))))))
 
 rule_in : (high : ℕ) (rs : List Row) (word : List ℕ) (column : ℕ) (l : Left) → RowsAreIn rs → IsIn high column → LeftIn high l → In high (rule rs word column l)
 rule_in high [] word column l each own b = own

@@ -7,7 +7,7 @@ use Rattle.std.proofs.lemmas.Bool.{leb-true, and_parts, or_parts, not-true}
 use Rattle.std.proofs.lemmas.List.Quantifiers.{all_pairs_push}
 use Rattle.lvm_num.specs.Descriptor.{is_size}
 use Rattle.lvm_num.specs.Name.{is_name}
-use Rattle.lvm_parse.specs.Words.{only, number_in, number_within, count_in, size_in, name_in, disk_in, word_in, partition_count_in, turns_in, copy_count_in, switch_in}
+use Rattle.lvm_parse.specs.Words.{only, number_in, number_within, count_in, size_in, name_in, disk_in, word_in, partition_count_in, turns_in, copy_count_in, switch_in, other_disk_in}
 use Rattle.lvm_parse.specs.declared.range.BlockRange.{BlockRange}
 use Rattle.lvm_parse.specs.declared.rest.Misfit.{Misfit}
 use Rattle.lvm_parse.specs.Bytes.{is_remark, unreadable_at}
@@ -18,7 +18,7 @@ use Rattle.lvm_parse.specs.Options.{mkvg_choice, no_mkvg_options, mklv_choice, n
 use Rattle.lvm_parse.proofs.OptionsReadingLemmas.{mapped, Keeping, keeping_if, options_keep}
 use Rattle.lvm_parse.specs.declared.command.Command.{Command}
 use Rattle.lvm_parse.specs.declared.command.Command.TheVariants as command
-use Rattle.lvm_parse.specs.Grammar.{Row, rows, rule, rd_disk, rd_volume, rd, wr_disk, wr_volume, wr, post, wait, step, lspv, fail, heal, cut, cut_of, mkvg, varyonvg, varyoffvg, lsvg, chvg_quorum, chvg_big, chvg, mklv, rmlv, mklvcopy, rmlvcopy, split_of, splitlvcopy, sync_group, syncvg, lslv, line_of_words, readable, line_of}
+use Rattle.lvm_parse.specs.Grammar.{Row, rows, rule, rd_disk, rd_volume, rd, wr_disk, wr_volume, wr, post, wait, step, lspv, fail, heal, cut, cut_of, mkvg, varyonvg, varyoffvg, lsvg, chvg_quorum, chvg_big, chvg, mklv, rmlv, mklvcopy, rmlvcopy, split_of, splitlvcopy, moved_between, moved_of, migratepv, sync_group, syncvg, lslv, line_of_words, readable, line_of}
 use Rattle.lvm_parse.specs.Within.{IsWithinLimits}
 
 -- ---- what is read
@@ -233,6 +233,24 @@ fits_splitlvcopy : (l : Left) → Fits (splitlvcopy l)
 unfolding Fits
 fits_splitlvcopy l = fits_if (option (codes "-y") l).0 _ _ (fits_split_of (option (codes "-y") l).1) tt
 
+-- the second disk isn't the first one
+disks_are_two : (l : Left) (from to : ℕ) → last (other_disk_in from) l ≡ Ok to → from ≢ to
+disks_are_two l from to is same =
+    let word = last_means (other_disk_in from) l to is in
+    let other = not-true (to == from) (only_passes (λ other. not (other == from)) (disk_in word.0) to word.1) in
+    let alike = eq-eqb to from (sym same) in
+    cc (other, alike)
+
+fits_moved_between : (volume : Option (List ℕ)) (l : Left) → Fits (moved_between volume l)
+unfolding Fits
+fits_moved_between volume l = fits_then (operand disk_in l) _ (λ from f. fits_then (last (other_disk_in from.0) from.1) _ (λ to t. disks_are_two from.1 from.0 to t))
+
+fits_moved_of : (l : Left) → Fits (moved_of l)
+fits_moved_of l = fits_then (operand name_in l) _ (λ name n. fits_moved_between (Some name.0) name.1)
+
+fits_migratepv : (l : Left) → Fits (migratepv l)
+fits_migratepv l = fits_if (option (codes "-l") l).0 _ _ (fits_moved_of (option (codes "-l") l).1) (fits_moved_between None (option (codes "-l") l).1)
+
 fits_cut : (l : Left) → Fits (cut l)
 unfolding Fits
 fits_cut l = go l.words
@@ -303,7 +321,7 @@ RowsFit [] = Unit {0}
 RowsFit (r ∷ rs) = ((l : Left) → Fits (r.reads l)) × RowsFit rs
 
 rows_fit : RowsFit rows
-rows_fit = (fits_mkvg, (fits_varyonvg, (fits_varyoffvg, (fits_lsvg, (fits_chvg, (fits_mklv, (fits_rmlv, (fits_mklvcopy, (fits_rmlvcopy, (fits_splitlvcopy, (fits_syncvg, (fits_lslv, (fits_rd, (fits_wr, (fits_post, (fits_wait, (fits_step, (fits_lspv, (fits_fail, (fits_heal, (fits_cut, tt)))))))))))))))))))))
+rows_fit = (fits_mkvg, (fits_varyonvg, (fits_varyoffvg, (fits_lsvg, (fits_chvg, (fits_mklv, (fits_rmlv, (fits_mklvcopy, (fits_rmlvcopy, (fits_splitlvcopy, (fits_migratepv, (fits_syncvg, (fits_lslv, (fits_rd, (fits_wr, (fits_post, (fits_wait, (fits_step, (fits_lspv, (fits_fail, (fits_heal, (fits_cut, tt))))))))))))))))))))))
 
 fits_rule : (rs : List Row) (word : List ℕ) (column : ℕ) (l : Left) → RowsFit rs → Fits (rule rs word column l)
 unfolding Fits

@@ -10,7 +10,7 @@ use Rattle.lvm_parse.specs.declared.chosen.MklvOptions.{MklvOptions}
 use Rattle.lvm_parse.specs.Options.{mkvg_choice, no_mkvg_options, mklv_choice, no_mklv_options}
 use Rattle.lvm_parse.specs.Bytes.{is_remark, unreadable_at}
 use Rattle.lvm_parse.specs.Line.{WordAt, Left, left_at}
-use Rattle.lvm_parse.specs.Words.{partition_count_in, turns_in, copy_count_in, word_in, name_in, disk_in, switch_in}
+use Rattle.lvm_parse.specs.Words.{partition_count_in, turns_in, copy_count_in, word_in, name_in, disk_in, other_disk_in, switch_in}
 use Rattle.lvm_parse.specs.Reading.{misfit, then_, next_column, operand, option, ends, last, is_next, blocks, last_blocks, options, required, disks}
 
 -- ---- requests
@@ -136,6 +136,18 @@ split_of l = then_ (operand name_in l) (λ new. then_ (operand name_in new.1) (�
 abbrev pub splitlvcopy : Left → Result Command Misfit
 splitlvcopy l = let named = option (codes "-y") l in if named.0 then split_of named.1 else misfit (next_column named.1)
 
+-- what follows the option of `migratepv`, which names this volume or none: the disk that is left, and another one
+abbrev pub moved_between : Option (List ℕ) → Left → Result Command Misfit
+moved_between volume l = then_ (operand disk_in l) (λ from. then_ (last (other_disk_in from.0) from.1) (λ to. Ok (command.Migratepv volume from.0 to)))
+
+-- `migratepv -l NAME DISK DISK`
+abbrev pub moved_of : Left → Result Command Misfit
+moved_of l = then_ (operand name_in l) (λ name. moved_between (Some name.0) name.1)
+
+-- `migratepv [-l NAME] DISK DISK`
+abbrev pub migratepv : Left → Result Command Misfit
+migratepv l = let named = option (codes "-l") l in if named.0 then moved_of named.1 else moved_between None named.1
+
 -- `syncvg -v NAME`
 abbrev pub sync_group : Left → Result Command Misfit
 sync_group l = let group = option (codes "-v") l in if group.0 then then_ (last name_in group.1) (λ name. Ok (command.SyncGroup name)) else misfit (next_column group.1)
@@ -165,7 +177,7 @@ abbrev pub rows_of_requests : List Row
 rows_of_requests = row (codes "rd") rd ∷ row (codes "wr") wr ∷ row (codes "post") post ∷ row (codes "wait") wait ∷ row (codes "step") step ∷ rows_of_disks
 
 abbrev pub rows_of_volumes : List Row
-rows_of_volumes = row (codes "mklv") mklv ∷ row (codes "rmlv") rmlv ∷ row (codes "mklvcopy") mklvcopy ∷ row (codes "rmlvcopy") rmlvcopy ∷ row (codes "splitlvcopy") splitlvcopy ∷ row (codes "syncvg") syncvg ∷ row (codes "lslv") lslv ∷ rows_of_requests
+rows_of_volumes = row (codes "mklv") mklv ∷ row (codes "rmlv") rmlv ∷ row (codes "mklvcopy") mklvcopy ∷ row (codes "rmlvcopy") rmlvcopy ∷ row (codes "splitlvcopy") splitlvcopy ∷ row (codes "migratepv") migratepv ∷ row (codes "syncvg") syncvg ∷ row (codes "lslv") lslv ∷ rows_of_requests
 
 abbrev pub rows_of_groups : List Row
 rows_of_groups = row (codes "varyonvg") varyonvg ∷ row (codes "varyoffvg") varyoffvg ∷ row (codes "lsvg") lsvg ∷ row (codes "chvg") chvg ∷ rows_of_volumes

@@ -21,6 +21,7 @@ IsWithinLimits (command.Step turns) = (1 ≤ turns) × (turns ≤ 1000000)
 IsWithinLimits (command.Mklvcopy name copies) = copies ≤ 9
 IsWithinLimits (command.Rmlvcopy name copies) = copies ≤ 9
 IsWithinLimits (command.Splitlvcopy new name copies) = copies ≤ 9
+IsWithinLimits (command.Migratepv volume from to) = from ≢ to
 IsWithinLimits other = Unit {0}
 
 -- at one of its columns, counted from 1, or behind its last byte

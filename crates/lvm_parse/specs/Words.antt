@@ -82,6 +82,10 @@ is_padded (b ∷ c ∷ digits) = b == 48
 abbrev pub disk_in : List ℕ → Option ℕ
 disk_in word = if bytes_eq (take 5 word) (codes "hdisk") && not (is_padded (drop 5 word)) then number_within 0 127 (drop 5 word) else None
 
+-- DISK: one that isn't this
+abbrev pub other_disk_in : ℕ → List ℕ → Option ℕ
+other_disk_in disk word = only (λ other. not (other == disk)) (disk_in word)
+
 -- the value of `-w`: `n`, `y` or `a`, of which the two are one, or `p`
 abbrev pub mode_in : List ℕ → Option Mode
 mode_in word = if bytes_eq word (codes "n") then Some mode.Off else (if bytes_eq word (codes "y") then Some mode.Active else (if bytes_eq word (codes "a") then Some mode.Active else (if bytes_eq word (codes "p") then Some mode.Passive else None)))

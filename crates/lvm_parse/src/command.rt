@@ -78,6 +78,15 @@ pub enum Command {
         /// 0 to 9.
         copies: u8,
     },
+    /// `migratepv [-l NAME] DISK DISK`: move the copies of all volumes, or of one, from the first disk to the second.
+    Migratepv {
+        /// The volume whose copies are moved; None where those of all volumes are.
+        volume: Option<Name>,
+        /// The disk that is left.
+        from: u16,
+        /// Another disk.
+        to: u16,
+    },
     /// `syncvg -l NAME`: bring up the stale copies of a volume.
     SyncVolume {
         name: Name,

@@ -20,7 +20,7 @@
 //! isn't given), `p` (passive) or `n` (off); `-d` is `p` (parallel, where it isn't given), `s` (sequential), `ps` or `pr` |
 //! | `rmlv [-f] NAME` | remove a volume; `-f` changes nothing | | `mklvcopy NAME N` | give each logical
 //! partition of a volume so many copies | | `rmlvcopy NAME N` | leave each so many | | `splitlvcopy -y
-//! NEW NAME N` | leave each so many, and make the others a volume of their own | | `syncvg -l NAME`,
+//! NEW NAME N` | leave each so many, and make the others a volume of their own | | `migratepv [-l NAME] DISK DISK` | move the copies of all volumes, or of one, from the first disk to the second; the two differ | | `syncvg -l NAME`,
 //! `syncvg -v NAME` | bring up the stale copies of a volume, or of the group | | `lslv -m NAME` | list where
 //! a volume's copies lie | | `lspv DISK` | list a member of the group | | `rd NAME BLOCK COUNT`, `rd DISK
 //! BLOCK COUNT` | read blocks of a volume, or of a disk | | `wr NAME BLOCK COUNT WORD`, `wr DISK BLOCK COUNT
@@ -57,9 +57,9 @@ pub use command::{Command, ParseFault};
 pub use disk_list::disks;
 pub use line::parse;
 pub use operands::{
-    copies, count, disk, ends, is_disk_next, last_copies, last_disk, last_name, last_partitions,
-    last_pattern, last_turns, misfit, mode, name, next_column, number, option, partitions, pattern,
-    policy, size, switch, turns,
+    copies, count, disk, ends, is_disk_next, last_copies, last_disk, last_name, last_other_disk,
+    last_partitions, last_pattern, last_turns, misfit, mode, name, next_column, number, option,
+    other_disk, partitions, pattern, policy, size, switch, turns,
 };
 pub use operands_line::{is_remark, unreadable_at};
 pub use options::{mklv_options, mkvg_options};
@@ -67,6 +67,6 @@ pub use range::{BlockRange, blocks, last_blocks};
 pub use rest::{Misfit, Rest, Word};
 pub use scan::next_word;
 pub use words::{
-    copy_count_of, count_of, disk_of, hex_word, mode_of, name_of, number_of, partition_count_of,
-    policy_of, size_of, switch_of, turns_of,
+    copy_count_of, count_of, disk_of, hex_word, mode_of, name_of, number_of, other_disk_of,
+    partition_count_of, policy_of, size_of, switch_of, turns_of,
 };

@@ -10,8 +10,8 @@ use crate::operands::misfit;
 use crate::operands_line::{is_remark, unreadable_at};
 use crate::rest::{Misfit, Rest, Word};
 use crate::rules::{
-    chvg, cut, fail, heal, lslv, lspv, lsvg, mklv, mklvcopy, mkvg, post, rd, rmlv, rmlvcopy,
-    splitlvcopy, step, syncvg, varyoffvg, varyonvg, wait, wr,
+    chvg, cut, fail, heal, lslv, lspv, lsvg, migratepv, mklv, mklvcopy, mkvg, post, rd, rmlv,
+    rmlvcopy, splitlvcopy, step, syncvg, varyoffvg, varyonvg, wait, wr,
 };
 use crate::scan::next_word;
 use std::alloc::Global;
@@ -69,6 +69,8 @@ fn volume_command(word: Word<'_>, rest: Rest<'_>) -> Result<Command, Misfit>
         rmlvcopy(rest)
     } else if name == b"splitlvcopy".as_slice() {
         splitlvcopy(rest)
+    } else if name == b"migratepv".as_slice() {
+        migratepv(rest)
     } else if name == b"syncvg".as_slice() {
         syncvg(rest)
     } else if name == b"lslv".as_slice() {

@@ -1,14 +1,14 @@
 //! The next word of a line: an operand, an option that stands alone, or none.
 ghost use Rattle.std.specs.Prelude.{◌≡◌, [], MatchResult};
-ghost use Rattle.lvm_parse.specs.Words.{disk_in, number_in, count_in, word_in, name_in, partition_count_in, turns_in, size_in, copy_count_in, mode_in, switch_in, policy_in};
+ghost use Rattle.lvm_parse.specs.Words.{disk_in, other_disk_in, number_in, count_in, word_in, name_in, partition_count_in, turns_in, size_in, copy_count_in, mode_in, switch_in, policy_in};
 ghost use Rattle.lvm_parse.specs.Reading.{next_column, is_next, operand, option, ends, last};
 ghost use Rattle.lvm_parse.specs.Rests.{left, word_at, with_word, fitted, ReadsAlike};
 
 use crate::rest::{Misfit, Rest, Word};
 use crate::scan::next_word;
 use crate::words::{
-    copy_count_of, count_of, disk_of, hex_word, mode_of, name_of, number_of, partition_count_of,
-    policy_of, size_of, switch_of, turns_of,
+    copy_count_of, count_of, disk_of, hex_word, mode_of, name_of, number_of, other_disk_of,
+    partition_count_of, policy_of, size_of, switch_of, turns_of,
 };
 use lvm_num::{Mode, Name, Policy};
 
@@ -46,6 +46,15 @@ pub fn disk(rest: Rest<'_>) -> Result<(u16, Rest<'_>), Misfit>
 {
     let (word, rest) = word(rest)?;
     fit(disk_of(word.bytes), word.column, rest)
+}
+
+/// DISK: the number of a disk other than this one.
+#[tactic(auto, using(crate::proofs::ReadingLemmas::NextWord::operand_lacks))]
+pub fn other_disk(rest: Rest<'_>, disk: u16) -> Result<(u16, Rest<'_>), Misfit>
+    ensures { ReadsAlike (operand (other_disk_in disk) (left rest.entry)) result }
+{
+    let (word, rest) = word(rest)?;
+    fit(other_disk_of(word.bytes, disk), word.column, rest)
 }
 
 /// BLOCK: a number.
@@ -181,6 +190,14 @@ pub fn last_disk(rest: Rest<'_>) -> Result<u16, Misfit>
 {
     let (disk, rest) = disk(rest)?;
     ends(rest, disk)
+}
+
+/// DISK other than this one, and the line ends.
+pub fn last_other_disk(rest: Rest<'_>, disk: u16) -> Result<u16, Misfit>
+    ensures { result ≡ last (other_disk_in disk) (left rest.entry) }
+{
+    let (other, rest) = other_disk(rest, disk)?;
+    ends(rest, other)
 }
 
 /// NAME, and the line ends.

@@ -1,6 +1,6 @@
 //! The lines of the language: each rule reads what follows the line's first word.
 ghost use Rattle.std.specs.Prelude.{◌≡◌};
-ghost use Rattle.lvm_parse.specs.Grammar.{rd_disk, rd_volume, rd, wr_disk, wr_volume, wr, post, wait, step, fail, heal, lspv, cut, new_group, mkvg, varyonvg, varyoffvg, lsvg, chvg_quorum, chvg_big, chvg, new_volume, mklv, rmlv, mklvcopy, rmlvcopy, split_of, splitlvcopy, sync_group, syncvg, lslv};
+ghost use Rattle.lvm_parse.specs.Grammar.{rd_disk, rd_volume, rd, wr_disk, wr_volume, wr, post, wait, step, fail, heal, lspv, cut, new_group, mkvg, varyonvg, varyoffvg, lsvg, chvg_quorum, chvg_big, chvg, new_volume, mklv, rmlv, mklvcopy, rmlvcopy, split_of, splitlvcopy, moved_between, moved_of, migratepv, sync_group, syncvg, lslv};
 ghost use Rattle.lvm_parse.specs.Rests.{left};
 ghost use Rattle.lvm_parse.specs.Answering.{Answers};
 
@@ -8,14 +8,14 @@ use crate::chosen::{MklvOptions, MkvgOptions};
 use crate::command::{Command, ParseFault};
 use crate::disk_list::disks;
 use crate::operands::{
-    disk, ends, is_disk_next, last_copies, last_disk, last_name, last_partitions, last_pattern,
-    last_turns, misfit, name, next_column, option, switch,
+    disk, ends, is_disk_next, last_copies, last_disk, last_name, last_other_disk, last_partitions,
+    last_pattern, last_turns, misfit, name, next_column, option, switch,
 };
 use crate::options::{mklv_options, mkvg_options};
 use crate::range::{blocks, last_blocks};
 use crate::rest::{Misfit, Rest};
 use crate::scan::next_word;
-use lvm_num::{Mode, Policy, Rows};
+use lvm_num::{Mode, Name, Policy, Rows};
 use std::alloc::Global;
 
 // `rd DISK BLOCK COUNT`
@@ -259,6 +259,37 @@ pub fn splitlvcopy(rest: Rest<'_>) -> Result<Command, Misfit>
         return Err(misfit(next_column(rest)));
     }
     split_of(rest)
+}
+
+// What follows the option of a `migratepv` that moves the copies of this volume, or of all.
+fn moved_between(volume: Option<Name>, rest: Rest<'_>) -> Result<Command, Misfit>
+    ensures { result ≡ moved_between volume (left rest.entry) }
+{
+    let (from, rest) = disk(rest)?;
+    let to = last_other_disk(rest, from)?;
+    Ok(Command::Migratepv { volume, from, to })
+}
+
+// What follows the option of a `migratepv -l NAME DISK DISK`.
+fn moved_of(rest: Rest<'_>) -> Result<Command, Misfit>
+    ensures { result ≡ moved_of (left rest.entry) }
+{
+    match name(rest) {
+        Ok((name, rest)) => moved_between(Some(name), rest),
+        Err(misfit) => Err(misfit),
+    }
+}
+
+/// `migratepv [-l NAME] DISK DISK`
+pub fn migratepv(rest: Rest<'_>) -> Result<Command, Misfit>
+    ensures { result ≡ migratepv (left rest.entry) }
+{
+    let (named, rest) = option(rest, b"-l");
+    if named {
+        moved_of(rest)
+    } else {
+        moved_between(None, rest)
+    }
 }
 
 // `syncvg -v NAME`

@@ -1,6 +1,6 @@
 //! What a single word means.
 ghost use Rattle.std.specs.Prelude.{◌≡◌, ◌≤◌, IfSome, if◌then◌else◌};
-ghost use Rattle.lvm_parse.specs.Words.{number_in, number_within, count_in, partition_count_in, turns_in, copy_count_in, size_in, is_hex_digit, hex_value, word_in, name_in, is_padded, disk_in, mode_in, switch_in, policy_in};
+ghost use Rattle.lvm_parse.specs.Words.{number_in, number_within, count_in, partition_count_in, turns_in, copy_count_in, size_in, is_hex_digit, hex_value, word_in, name_in, is_padded, disk_in, other_disk_in, mode_in, switch_in, policy_in};
 
 use lvm_num::{Mode, Name, Policy};
 
@@ -164,6 +164,14 @@ pub fn mode_of(word: &[u8]) -> Option<Mode>
     } else {
         None
     }
+}
+
+/// The disk that the word is, where it isn't this one.
+pub fn other_disk_of(word: &[u8], disk: u16) -> Option<u16>
+    ensures { result ≡ other_disk_in disk word.now }
+{
+    let other = disk_of(word)?;
+    if other == disk { None } else { Some(other) }
 }
 
 /// Whether a switch is on, by `y`, or off, by `n`.

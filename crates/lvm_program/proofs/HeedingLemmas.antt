@@ -72,6 +72,7 @@ went_off (Ok (Some (command.Post name at count word))) have total old new cause 
 went_off (Ok (Some command.Wait)) have total old new cause none = in_session old new cause.1 none
 went_off (Ok (Some (command.SyncVolume name))) have total old new cause none = in_session old new cause.1 none
 went_off (Ok (Some (command.SyncGroup name))) have total old new cause none = in_session old new cause.1 none
+went_off (Ok (Some (command.Migratepv volume from to))) have total old new cause none = in_session old new cause.1 none
 went_off (Ok (Some (command.Step turns))) have total old new cause none = in_session old new cause.1 none
 went_off read have total old new cause none = were_lost have total old new cause.1 none
 

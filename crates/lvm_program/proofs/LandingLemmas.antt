@@ -15,18 +15,21 @@ use Rattle.lvm_session.specs.declared.open.Power.{Power}
 use Rattle.lvm_session.specs.declared.open.Power.TheVariants as power
 use Rattle.lvm_session.specs.declared.origin.Origin.{Origin}
 use Rattle.lvm_session.specs.Causes.{AnyFailedSince}
-use Rattle.lvm_session.specs.Sound.{is_dark}
+use Rattle.lvm_session.specs.Sound.{IsSound, is_dark}
 use Rattle.lvm_session.specs.State.{Core, State, state}
 use Rattle.lvm_posts.specs.declared.asked.Asked.{Asked}
 use Rattle.lvm_posts.specs.declared.posts.Post.{Post}
 use Rattle.lvm_posts.specs.Posts.{takings}
 use Rattle.lvm_load.specs.Landing.{EntersWell}
+use Rattle.lvm_load.specs.MovingLanding.{EntersOnWay, KeepsMovingFrame, LeavesMoving}
+use Rattle.lvm_load.proofs.MovingLandingLemmas.{frame_later, requests_land_on_way}
 use Rattle.lvm_load.proofs.LandingLemmas.{enters_both, enters_none, enters_one, leaves_nothing, leaves_then, requests_land_well, sound_later}
 use Rattle.lvm_line.specs.Lines.{IsLine, LineDoes, role_of}
 use Rattle.lvm_line.specs.passed.ReplyVariants as reply
 use Rattle.lvm_line.specs.passed.GroupLines.{IsBetween, IsOnBetween, IsRequesting, Reply, ScriptState, is_unheard}
 use Rattle.lvm_line.specs.passed.RangeLines.{CarriesBy, EndsWell, Fails, FailsIf, Finishes, NoStepWhileOff, NotBegun, NotPosted, NotThere, NothingMoves, OnVolume, Posted, Posts, StepDoes, Steps, There, WhileOff}
 use Rattle.lvm_line.specs.passed.RangeLinesWaiting.{TellsAll}
+use Rattle.lvm_line.specs.passed.MoveLines.{MigratepvDoes, MovesCopies, NoGroupForMoves, NotAskedForMoves, NothingMoves as NoneMoves}
 use Rattle.lvm_line.specs.passed.RangeLines.{Ending, is_stuck}
 use Rattle.lvm_line.specs.passed.RangeLinesWaiting.{AtRest, Awaits, Goes, InVain, Over, WaitDoes, WaitEnds, WaitsOn, WhileOff as WaitsWhileOff}
 use Rattle.lvm_line.specs.passed.RangeLinesWaiting.{NoGone, OneGone, TakesGone, WaitsOver}
@@ -37,7 +40,7 @@ use Rattle.lvm_line.proofs.CausesLemmas.Turns.{fails_counts, leaves_counts, over
 use Rattle.lvm_line.proofs.passed.GroupLines.{same_goes}
 use Rattle.lvm_line.proofs.passed.Tie.{goes_any, path_shape}
 use Rattle.lvm_parse.specs.Reading.{ends}
-use Rattle.lvm_program.specs.Landing.{LandsInLine, LinesLandWell, NothingSince, SomeLineLandsWell}
+use Rattle.lvm_program.specs.Landing.{LandsIn, LandsInLine, LandsOnWay, LinesLandWell, NothingSince, SomeLineLandsWell}
 
 -- ---- answers that are taken
 
@@ -109,6 +112,29 @@ module _ (old new : ScriptState) (between : IsBetween old.moment old.session old
         lands mid leaves (ap (λ (s : ScriptState). s.moment.device.counts) over.waits.new_is ∙ over_counts mid old.posts old.last over.closed over.ends)
         (subst (λ (fs : List Fact). EntersWell core fs new.moment.facts) over.ends.facts (gone_enter core over.waits.takes))
 
+    -- ---- where copies move
+
+    moves_enter : (end : State) → LeavesMoving (state old.moment.device core) end → IsSound end → new.moment.device.counts ≡ end.device.counts → EntersOnWay (state old.moment.device core) end.core.history.facts
+    moves_enter end leaves sound counts = requests_land_on_way (state old.moment.device core) end on_first.sound leaves none lit
+      where
+        frame : KeepsMovingFrame (state old.moment.device core) end
+        frame = frame_later (state old.moment.device core) end leaves
+
+        none : AnyFailedSince end → ⊥
+        none failed = subst (λ (o : Option Core). IfSome o (λ (c : Core). AnyFailedSince (state new.moment.device c) → ⊥)) on nothing.none (
+          failed.0,
+          subst (λ (n : Counts). Rose (slice_index_or core.origin.faults failed.0 0) (n.faults failed.0)) (sym counts)
+              (subst (λ (fs : List ℕ). Rose (slice_index_or fs failed.0 0) (end.device.counts.faults failed.0)) frame.faults failed.1),
+        )
+
+        lit : end.core.power ≡ power.Dark → ⊥
+        lit dark = nothing.lit (subst (λ (n : Counts). Rose old.moment.device.counts.cuts n.cuts) (sym counts) (frame.cut between.lit.power (sound.dark (ap is_dark dark)).power))
+
+    moved : (b : Bool) (end : State) → LeavesMoving (state old.moment.device core) end → IsSound end → FailsIf b end old.posts old.last new → LandsOnWay old new
+    moved b end leaves sound left =
+        inr (subst (λ (o : Option Core). IfSome o (λ (c : Core). EntersOnWay (state old.moment.device c) new.moment.facts)) (sym on)
+        (subst (EntersOnWay (state old.moment.device core)) (sym (fails_facts end old.posts old.last new b left)) (moves_enter end leaves sound (fails_counts end old.posts old.last new b left))))
+
   range_lands : (name : List ℕ) (write : Option ℕ) (Says : State → Asked → Reply → Type 0) (at count : ℕ) (answer : Reply) → OnVolume name (λ core lv. Finishes write Says lv at count core old new answer) old new answer → LandsInLine old new
   range_lands name write Says at count answer (WhileOff off is) = inl is.1
   range_lands name write Says at count answer (NotThere core on none is) = inl is.1
@@ -153,13 +179,20 @@ module _ (old new : ScriptState) (between : IsBetween old.moment old.session old
       by (InVain vain) =
           lands core on waits.mid (goes_any waits.runs) (over_counts waits.mid old.posts old.last new vain.ends) (enters_none core waits.mid.core.history.facts new.moment.facts vain.ends.facts)
 
-  line_lands : (log : Log) (room : Room) (read : Result (Option Command) Misfit) (answer : Reply) → LineDoes log room read old new answer → IsRequesting (role_of read) → LandsInLine old new
+  migratepv_lands : (volume : Option (List ℕ)) (from to : ℕ) (answer : Reply) → MigratepvDoes volume from to old new answer → LandsOnWay old new
+  migratepv_lands volume from to answer (NoGroupForMoves off is) = inl is.1
+  migratepv_lands volume from to answer (NotAskedForMoves core why on not is) = inl is.1
+  migratepv_lands volume from to answer (NoneMoves core lv on asked none says same) = inl same
+  migratepv_lands volume from to answer (MovesCopies core lv on asked some its) = moved core on (is_unheard answer) its.end its.way.leaves its.sound its.leaves
+
+  line_lands : (log : Log) (room : Room) (read : Result (Option Command) Misfit) (answer : Reply) → LineDoes log room read old new answer → IsRequesting (role_of read) → LandsIn read old new
   line_lands log room (Ok (Some (command.Rd name at count))) answer does asks = range_lands name None _ at count answer does
   line_lands log room (Ok (Some (command.Wr name at count word))) answer does asks = range_lands name (Some word) _ at count answer does
   line_lands log room (Ok (Some (command.Post name at count word))) answer does asks = post_lands name at count word answer does
   line_lands log room (Ok (Some command.Wait)) answer does asks = wait_lands answer does
   line_lands log room (Ok (Some (command.SyncVolume name))) answer does asks = sync_volume_lands name answer does
   line_lands log room (Ok (Some (command.SyncGroup name))) answer does asks = sync_group_lands name answer does
+  line_lands log room (Ok (Some (command.Migratepv volume from to))) answer does asks = migratepv_lands volume from to answer does
   line_lands log room (Ok (Some (command.Step turns))) answer does asks = step_lands turns answer does
   line_lands log room read answer does asks = absurd asks
 

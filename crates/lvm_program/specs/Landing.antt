@@ -1,8 +1,11 @@
 -- How the requests of a workload end over a shelf that does nothing by itself.
-use Rattle.std.specs.Prelude.{◌≡◌, ◌⊎◌, ℕ, false, IfSome, List, Option}
+use Rattle.std.specs.Prelude.{◌≡◌, ◌⊎◌, ℕ, false, IfSome, List, Ok, Option, Result, Some}
 use Rattle.lvm_disk.specs.Counts.{Rose}
 use Rattle.lvm_vol.specs.Log.{Log, is_open}
 use Rattle.lvm_kept.specs.Moments.{Moment}
+use Rattle.lvm_parse.specs.declared.command.Command.{Command}
+use Rattle.lvm_parse.specs.declared.command.Command.TheVariants as command
+use Rattle.lvm_parse.specs.declared.rest.Misfit.{Misfit}
 use Rattle.lvm_parse.specs.Grammar.{line_of}
 use Rattle.lvm_core.specs.declared.parts.Room.{Room}
 use Rattle.lvm_session.specs.Causes.{AnyFailedSince}
@@ -10,6 +13,7 @@ use Rattle.lvm_session.specs.State.{Core, State, state}
 use Rattle.lvm_load.specs.declared.workload.Workload.{Workload}
 use Rattle.lvm_load.specs.declared.workload.Woven.{Woven}
 use Rattle.lvm_load.specs.Landing.{AreWell, EntersWell}
+use Rattle.lvm_load.specs.MovingLanding.{EntersOnWay}
 use Rattle.lvm_line.specs.Lines.{IsLine, role_of}
 use Rattle.lvm_line.specs.passed.GroupLines.{IsRequesting, Reply, ScriptState}
 use Rattle.lvm_program.specs.Woven.{Drawn, EndsWoven, Exit, NotMade}
@@ -37,10 +41,19 @@ pub record NothingSince (old new : ScriptState) : Type 0 where
 abbrev pub LandsInLine : ScriptState → ScriptState → Type 0
 LandsInLine old new = (new ≡ old) ⊎ IfSome old.session (λ (core : Core). EntersWell core core.history.facts new.moment.facts)
 
+-- or by the session as it was at some moment, where copies move
+abbrev pub LandsOnWay : ScriptState → ScriptState → Type 0
+LandsOnWay old new = (new ≡ old) ⊎ IfSome old.session (λ (core : Core). EntersOnWay (state old.moment.device core) new.moment.facts)
+
+-- which of the two is asked of a line: in `migratepv` alone copies move
+abbrev pub LandsIn : Result (Option Command) Misfit → ScriptState → ScriptState → Type 0
+LandsIn (Ok (Some (command.Migratepv volume from to))) old new = LandsOnWay old new
+LandsIn other old new = LandsInLine old new
+
 -- So it is in each line that makes requests, or turns, where nothing has failed.
 abbrev pub LinesLandWell : Type 0
 LinesLandWell = (log : Log) (room : Room) (line : List ℕ) (answer : Reply) (old new : ScriptState) → IsLine log room line answer old new → IsRequesting (role_of (line_of line)) → NothingSince old new
-    → LandsInLine old new
+    → LandsIn (line_of line) old new
 
 -- There is such a line.
 abbrev pub SomeLineLandsWell : Type 0

@@ -18,7 +18,8 @@ pub fn worked_run()
 {}
 
 /// Each request that lands in a line which makes requests or turns lands as done or got, or where no copy of it could be used when
-/// the session began, while no transfer has failed since then and the power isn't cut in the line.
+/// the session began, while no transfer has failed since then and the power isn't cut in the line. Where copies move in the line
+/// that is said of the session at some moment of it.
 pub fn request_lines_land_well()
     ensures lines { LinesLandWell }
     // There is such a line.

@@ -22,7 +22,7 @@ pub record Row : Type 0 where
 abbrev pub row : List ℕ → Kind → Row
 row name carries = record { name = name; carries = carries }
 
--- the refusals in the order of their numbers, of which the first is 1; no line is answered by 33 to 35 yet
+-- the refusals in the order of their numbers, of which the first is 1; no line is answered by 33 or 34 yet
 abbrev pub rows : List Row
 rows =
     row (codes "BadLine") Number ∷ row (codes "NoGroup") Nothing ∷ row (codes "GroupOn") Nothing ∷ row (codes "GroupExists") Nothing

@@ -21,3 +21,7 @@ stepped_text turns = codes "stepped " ++ decimal turns ++ codes "\n"
 -- how many copies were made fresh
 abbrev pub synced_text : ℕ → List ℕ
 synced_text made = codes "synced " ++ decimal made ++ codes "\n"
+
+-- how many copies have moved
+abbrev pub migrated_text : ℕ → List ℕ
+migrated_text moved = codes "migrated " ++ decimal moved ++ codes "\n"

@@ -12,7 +12,7 @@ mod refusal;
 mod words;
 
 pub use block::show_block;
-pub use counted::{show_stepped, show_synced};
+pub use counted::{show_migrated, show_stepped, show_synced};
 pub use counts::{
     all_free, all_partitions, all_stale, carriers, free_on, missing_members, quorum_votes,
     stale_in, stale_on,

@@ -45,17 +45,19 @@ use Rattle.lvm_top.proofs.StandingLemmas.Volumes.{done_finds, found_before, idle
 use Rattle.lvm_top.proofs.StandingLemmas.Copying.{fewer_id, more_id}
 use Rattle.lvm_top.proofs.StandingLemmas.Splitting.{split_id}
 use Rattle.lvm_top.proofs.StandingLemmas.Changing.{change_finds}
+use Rattle.lvm_top.proofs.StandingLemmas.Moving.{found_first, migrated_finds, own_moved}
+use Rattle.lvm_line.specs.passed.MoveLines.{MigratepvDoes, MovesCopies, NoGroupForMoves, NotAskedForMoves, NothingMoves}
 use Rattle.lvm_top.proofs.ScriptLemmas.Scripting.{script_went}
 use Rattle.lvm_top.specs.Laws.{MayRun}
 use Rattle.lvm_top.specs.Plain.{FindsOneGroup}
 use Rattle.lvm_top.specs.OneGroup.{IsUnforced, AreUnforced, EndsUnforced, UnforcedStaysAlone, UnforcedRunsAlone, BlankFindsOneGroup}
-use Rattle.lvm_top.specs.Standing.{MayHaveCommitted, StoodBefore}
+use Rattle.lvm_top.specs.Standing.{MayHaveCommitted, MayMoveCopies, StandsForMoves, StoodBefore}
 use Rattle.lvm_top.proofs.Begun.{IsIts}
 use Rattle.lvm_top.proofs.Devices.{IsShelf, NothingNew, then_nothing, same_nothing, unwritten_nothing}
 use Rattle.lvm_top.proofs.StandingLemmas.Groups.{asked, asked_nothing, not_stuck}
 use Rattle.lvm_top.proofs.LawsLemmas.Lines.{by_reading}
 use Rattle.lvm_top.proofs.NewGroupLemmas.{parts_find, refused_finds}
-use Rattle.lvm_top.proofs.LawsLemmas.Scripts.{last_told, run_may_start, stood, went_so}
+use Rattle.lvm_top.proofs.LawsLemmas.Scripts.{last_told, may_move, run_may_start, stood, went_so}
 
 -- ---- what is found is shown
 
@@ -239,44 +241,58 @@ module _ (log : Log) (old new : ScriptState) (answer : Reply) (shelf : IsShelf o
     chvg_big_one name (BecomesBig core left mid some mine drains done is) = changed_one (IsNext (as_big mid.core.descriptor)) core left mid some drains (λ k is. ap (λ (d : Descriptor). d.id) is) done
     chvg_big_one name (ChvgBigFails core left mid why some mine drains done is) = changed_one (IsNext (as_big mid.core.descriptor)) core left mid some drains (λ k is. ap (λ (d : Descriptor). d.id) is) done
 
+  -- ---- `migratepv`
+
+  migratepv_one : (volume : Option (List ℕ)) (from to : ℕ) → StandsForMoves log.run OfRequests old new → MigratepvDoes volume from to old new answer → FindsOneGroup now
+  migratepv_one volume from to may (NoGroupForMoves none is) = same_one is.1
+  migratepv_one volume from to may (NotAskedForMoves core why some not_asked is) = same_one is.1
+  migratepv_one volume from to may (NothingMoves core lv some asked none says same) = same_one same
+  migratepv_one volume from to may (MovesCopies core lv some asked volumes its) = no_new_one was now (λ id k it. ⊎_elim
+      (λ (before : MayBeFound was id k). (k, before))
+      (λ committed.
+      let same : id ≡ core.descriptor.id = committed.own ∙ own_moved log.run old new between named may volume from to core some k committed.is in
+      (core.descriptor, subst (λ (n : ℕ). MayBeFound was n core.descriptor) (sym same) (found_first log.run old new between named may core some volumes)))
+      (migrated_finds log.run old new between named may core some volumes lv from to answer its volume asked id k it)) one
+
   -- ---- another line
 
-  other_one : (room : Room) (line : List ℕ) (read : Result (Option Command) Misfit) → line_of line ≡ read → StoodBefore log.run (role_of read) old new → ((id : ℕ) (k : Descriptor) → MayHaveCommitted read answer old new id k → ⊥)
+  other_one : (room : Room) (line : List ℕ) (read : Result (Option Command) Misfit) → line_of line ≡ read → StoodBefore log.run (role_of read) old new → MayMoveCopies log.run read old new → ((id : ℕ) (k : Descriptor) → MayHaveCommitted read answer old new id k → ⊥)
       → LineDoes log room read old new answer → FindsOneGroup now
-  other_one room line read is stood none does = nothing_one was now (λ id k it. ⊎_elim
+  other_one room line read is stood may none does = nothing_one was now (λ id k it. ⊎_elim
       (λ (before : MayBeFound was id k). before)
       (λ committed. absurd (none id k committed))
-      (by_reading log room line answer old new shelf between heard timely named read is stood does id k it)) one
+      (by_reading log room line answer old new shelf between heard timely named read is stood may does id k it)) one
 
-  line_one : (room : Room) (line : List ℕ) → IsUnforced line → (read : Result (Option Command) Misfit) → line_of line ≡ read → StoodBefore log.run (role_of read) old new → LineDoes log room read old new answer → FindsOneGroup now
-  line_one room line unforced (Ok (Some (command.Mkvg true name mib disks))) is stood does = absurd (unforced name mib disks is)
-  line_one room line unforced (Ok (Some (command.Mkvg false name mib disks))) is stood does = mkvg_one room line name mib disks is does
-  line_one room line unforced (Ok (Some (command.Mklv name copies mode policy group lps))) is stood does = mklv_one stood (wanted name copies mode policy lps) group does
-  line_one room line unforced (Ok (Some (command.Rmlv name))) is stood does = rmlv_one stood name does
-  line_one room line unforced (Ok (Some (command.ChvgQuorum on name))) is stood does = chvg_quorum_one stood on name does
-  line_one room line unforced (Ok (Some (command.ChvgBig name))) is stood does = chvg_big_one stood name does
-  line_one room line unforced (Err misfit) is stood does = other_one room line _ is stood (λ id k it. it.is) does
-  line_one room line unforced (Ok None) is stood does = other_one room line _ is stood (λ id k it. it.is) does
-  line_one room line unforced (Ok (Some (command.Varyon name))) is stood does = other_one room line _ is stood (λ id k it. it.is) does
-  line_one room line unforced (Ok (Some (command.Varyoff name))) is stood does = other_one room line _ is stood (λ id k it. it.is) does
-  line_one room line unforced (Ok (Some (command.Lsvg volumes name))) is stood does = other_one room line _ is stood (λ id k it. it.is) does
-  line_one room line unforced (Ok (Some (command.Mklvcopy name copies))) is stood does = mklvcopy_one stood name copies does
-  line_one room line unforced (Ok (Some (command.Rmlvcopy name copies))) is stood does = rmlvcopy_one stood name copies does
-  line_one room line unforced (Ok (Some (command.Splitlvcopy made name copies))) is stood does = splitlvcopy_one stood made name copies does
-  line_one room line unforced (Ok (Some (command.Lslv name))) is stood does = other_one room line _ is stood (λ id k it. it.is) does
-  line_one room line unforced (Ok (Some (command.Lspv disk))) is stood does = other_one room line _ is stood (λ id k it. it.is) does
-  line_one room line unforced (Ok (Some (command.Rd name at count))) is stood does = other_one room line _ is stood (λ id k it. it.is) does
-  line_one room line unforced (Ok (Some (command.Wr name at count word))) is stood does = other_one room line _ is stood (λ id k it. it.is) does
-  line_one room line unforced (Ok (Some (command.Post name at count word))) is stood does = other_one room line _ is stood (λ id k it. it.is) does
-  line_one room line unforced (Ok (Some command.Wait)) is stood does = other_one room line _ is stood (λ id k it. it.is) does
-  line_one room line unforced (Ok (Some (command.SyncVolume name))) is stood does = other_one room line _ is stood (λ id k it. it.is) does
-  line_one room line unforced (Ok (Some (command.SyncGroup name))) is stood does = other_one room line _ is stood (λ id k it. it.is) does
-  line_one room line unforced (Ok (Some (command.Step turns))) is stood does = other_one room line _ is stood (λ id k it. it.is) does
-  line_one room line unforced (Ok (Some (command.RawRd disk at count))) is stood does = other_one room line _ is stood (λ id k it. it.is) does
-  line_one room line unforced (Ok (Some (command.RawWr disk at count word))) is stood does = other_one room line _ is stood (λ id k it. it.is) does
-  line_one room line unforced (Ok (Some (command.Fail disk))) is stood does = other_one room line _ is stood (λ id k it. it.is) does
-  line_one room line unforced (Ok (Some (command.Heal disk))) is stood does = other_one room line _ is stood (λ id k it. it.is) does
-  line_one room line unforced (Ok (Some (command.Cut word))) is stood does = other_one room line _ is stood (λ id k it. it.is) does
+  line_one : (room : Room) (line : List ℕ) → IsUnforced line → (read : Result (Option Command) Misfit) → line_of line ≡ read → StoodBefore log.run (role_of read) old new → MayMoveCopies log.run read old new → LineDoes log room read old new answer → FindsOneGroup now
+  line_one room line unforced (Ok (Some (command.Mkvg true name mib disks))) is stood may does = absurd (unforced name mib disks is)
+  line_one room line unforced (Ok (Some (command.Mkvg false name mib disks))) is stood may does = mkvg_one room line name mib disks is does
+  line_one room line unforced (Ok (Some (command.Mklv name copies mode policy group lps))) is stood may does = mklv_one stood (wanted name copies mode policy lps) group does
+  line_one room line unforced (Ok (Some (command.Rmlv name))) is stood may does = rmlv_one stood name does
+  line_one room line unforced (Ok (Some (command.ChvgQuorum on name))) is stood may does = chvg_quorum_one stood on name does
+  line_one room line unforced (Ok (Some (command.ChvgBig name))) is stood may does = chvg_big_one stood name does
+  line_one room line unforced (Err misfit) is stood may does = other_one room line _ is stood tt (λ id k it. it.is) does
+  line_one room line unforced (Ok None) is stood may does = other_one room line _ is stood tt (λ id k it. it.is) does
+  line_one room line unforced (Ok (Some (command.Varyon name))) is stood may does = other_one room line _ is stood tt (λ id k it. it.is) does
+  line_one room line unforced (Ok (Some (command.Varyoff name))) is stood may does = other_one room line _ is stood tt (λ id k it. it.is) does
+  line_one room line unforced (Ok (Some (command.Lsvg volumes name))) is stood may does = other_one room line _ is stood tt (λ id k it. it.is) does
+  line_one room line unforced (Ok (Some (command.Mklvcopy name copies))) is stood may does = mklvcopy_one stood name copies does
+  line_one room line unforced (Ok (Some (command.Rmlvcopy name copies))) is stood may does = rmlvcopy_one stood name copies does
+  line_one room line unforced (Ok (Some (command.Splitlvcopy made name copies))) is stood may does = splitlvcopy_one stood made name copies does
+  line_one room line unforced (Ok (Some (command.Lslv name))) is stood may does = other_one room line _ is stood tt (λ id k it. it.is) does
+  line_one room line unforced (Ok (Some (command.Lspv disk))) is stood may does = other_one room line _ is stood tt (λ id k it. it.is) does
+  line_one room line unforced (Ok (Some (command.Rd name at count))) is stood may does = other_one room line _ is stood tt (λ id k it. it.is) does
+  line_one room line unforced (Ok (Some (command.Wr name at count word))) is stood may does = other_one room line _ is stood tt (λ id k it. it.is) does
+  line_one room line unforced (Ok (Some (command.Post name at count word))) is stood may does = other_one room line _ is stood tt (λ id k it. it.is) does
+  line_one room line unforced (Ok (Some command.Wait)) is stood may does = other_one room line _ is stood tt (λ id k it. it.is) does
+  line_one room line unforced (Ok (Some (command.SyncVolume name))) is stood may does = other_one room line _ is stood tt (λ id k it. it.is) does
+  line_one room line unforced (Ok (Some (command.SyncGroup name))) is stood may does = other_one room line _ is stood tt (λ id k it. it.is) does
+  line_one room line unforced (Ok (Some (command.Migratepv volume from to))) is stood may does = migratepv_one volume from to may does
+  line_one room line unforced (Ok (Some (command.Step turns))) is stood may does = other_one room line _ is stood tt (λ id k it. it.is) does
+  line_one room line unforced (Ok (Some (command.RawRd disk at count))) is stood may does = other_one room line _ is stood tt (λ id k it. it.is) does
+  line_one room line unforced (Ok (Some (command.RawWr disk at count word))) is stood may does = other_one room line _ is stood tt (λ id k it. it.is) does
+  line_one room line unforced (Ok (Some (command.Fail disk))) is stood may does = other_one room line _ is stood tt (λ id k it. it.is) does
+  line_one room line unforced (Ok (Some (command.Heal disk))) is stood may does = other_one room line _ is stood tt (λ id k it. it.is) does
+  line_one room line unforced (Ok (Some (command.Cut word))) is stood may does = other_one room line _ is stood tt (λ id k it. it.is) does
 
 -- ---- the lines of a script
 
@@ -307,7 +323,7 @@ module _ (log : Log) (room : Room) (past : List Fact) (first : ScriptState) (beg
       let stood_so = stood log room past first begin before so_far.alone (role_of (line_of line)) new now in
       record {
         alone = (so_far.alone, now);
-        finds_one = line_one log mid new answer shelf it.between heard timely it.named (last_told log room past first begin before so_far.alone) so_far.finds_one room line unforced.1 (line_of line) refl stood_so it.does;
+        finds_one = line_one log mid new answer shelf it.between heard timely it.named (last_told log room past first begin before so_far.alone) so_far.finds_one room line unforced.1 (line_of line) refl stood_so (may_move log room past first begin before so_far.alone (line_of line) new now) it.does;
       }
 
   ends_alone : {mid last : ScriptState} {done : List (List ℕ)} {said : List Reply} {front : List ℕ} (ends : Ends log room mid last done said front) → FindsOneGroup mid.moment.device → EndsAlone ends

@@ -2,6 +2,8 @@ pub mod Volumes
 pub mod Copying
 pub mod Splitting
 pub mod Changing
+pub mod Tied
+pub mod Moving
 pub mod Groups
 pub mod Acknowledged
 pub mod Closing

@@ -21,14 +21,14 @@ use Rattle.lvm_top.specs.Recovery.{AreRecovered}
 use Rattle.lvm_top.specs.Refused.{EndsInTime}
 use Rattle.lvm_top.specs.Run.{Run, IsRun, RanAlone}
 use Rattle.lvm_top.specs.Script.{Script, StaysAlone, entry_state}
-use Rattle.lvm_top.specs.Standing.{MayHaveCommitted, DescriptorMayStand, MayStandAtEnd, HasFewDisks, StoodBefore}
+use Rattle.lvm_top.specs.Standing.{MayHaveCommitted, DescriptorMayStand, MayMoveCopies, MayStandAtEnd, HasFewDisks, StoodBefore}
 
 -- Whatever may be found after a line might be found before it, or is what the line may have committed; where no transfer that is out goes to a slot of descriptors
--- and something was heard of all, the clock is ahead of each crash image, and the disks stand by a session.
+-- and something was heard of all, the clock is ahead of each crash image, and the disks stand by a session; where copies move, after some earlier history.
 abbrev pub LineFindsNoMore : Type 0
 LineFindsNoMore =
     (log : Log) (room : Room) (line : List ℕ) (answer : Reply) (old new : ScriptState) → IsLine log room line answer old new
-    → HasFewDisks old.moment.device → LeavesDescriptors old.moment.device → (IsStuck answer → ⊥) → IsTimely log.run old → StoodBefore log.run (role_of (line_of line)) old new
+    → HasFewDisks old.moment.device → LeavesDescriptors old.moment.device → (IsStuck answer → ⊥) → IsTimely log.run old → StoodBefore log.run (role_of (line_of line)) old new → MayMoveCopies log.run (line_of line) old new
     → (id : ℕ) (k : Descriptor) → MayBeFound new.moment.device id k → MayBeFound old.moment.device id k ⊎ MayHaveCommitted (line_of line) answer old new id k
 
 -- A state from which a script may begin: no group is on, no transfer that is out goes to a slot of descriptors, the clock is ahead of each crash image of the

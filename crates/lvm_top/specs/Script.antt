@@ -19,6 +19,7 @@ abbrev pub is_made_late : Reply → Bool
 is_made_late (reply.Refused why) = true
 is_made_late (reply.Stepped turns) = true
 is_made_late (reply.Synced made) = true
+is_made_late (reply.Migrated moved) = true
 is_made_late _ = false
 
 -- the reply that is written: the answer, or where the line of a refusal or of turns found no memory that it didn't

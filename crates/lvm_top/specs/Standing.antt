@@ -1,5 +1,5 @@
 -- Which descriptors may be found after a line, and after the lines of a script.
-use Rattle.std.specs.Prelude.{◌≡◌, ◌⊎◌, ◌≤◌, ℕ, Bool, true, false, List, Option, Some, Result, Ok, IfSome, IsSomeAnd, length}
+use Rattle.std.specs.Prelude.{◌≡◌, ◌⊎◌, ◌≤◌, ◌∷◌, ◌++◌, ℕ, Bool, true, false, List, Option, Some, Result, Ok, IfSome, IsSomeAnd, length}
 use Rattle.lvm_num.specs.declared.descriptor.Descriptor.{Descriptor}
 use Rattle.lvm_disk.specs.Device.{Device}
 use Rattle.lvm_vol.specs.Facts.{Fact}
@@ -19,7 +19,8 @@ use Rattle.lvm_line.specs.passed.Volumes.{IsWith, IsWithFirst, IsWithMore}
 use Rattle.lvm_line.specs.passed.Members.{as_big, with_quorum}
 use Rattle.lvm_line.specs.passed.Splitting.{IsSplit}
 use Rattle.lvm_core.specs.Leaves.{MayBeFound}
-use Rattle.lvm_line.specs.passed.GroupLines.{asked_for, IsAlone, IsBrokenOff, Role, IsAtRest, StandsBy, ScriptState, Reply}
+use Rattle.lvm_line.specs.passed.MoveLines.{IsAsked, PlannedMove, after_moves, planned_moves}
+use Rattle.lvm_line.specs.passed.GroupLines.{asked_for, IsAlone, IsBrokenOff, OfRequests, Role, IsAtRest, StandsBy, ScriptState, Reply}
 use Rattle.lvm_line.specs.passed.VolumeLines.{Drains, wanted}
 use Rattle.lvm_line.specs.passed.ReplyVariants as reply
 use Rattle.lvm_top.specs.Script.{Script, NoLine, NextLine, Ends, AtLine, InLine}
@@ -33,8 +34,16 @@ pub record WasDrained (old : ScriptState) (core : Core) (mid : State) : Type 0 w
   pub left : ℕ
   pub drains : Drains core old left mid
 
+-- The first of the moves that are planned for this group have been made, one or more of them.
+pub record HasMovedSome (d : Descriptor) (lv : Option ℕ) (from to : ℕ) (k : Descriptor) : Type 0 where
+  pub first : PlannedMove
+  pub moved : List PlannedMove
+  pub rest : List PlannedMove
+  pub all : planned_moves d lv from to ≡ (first ∷ moved) ++ rest
+  pub is : k ≡ after_moves d (first ∷ moved)
+
 -- the descriptor that a line was to commit: of the group that is made, or of that which is on with quorum checking switched, as a big one, with a volume more or without
--- one, with more or fewer copies, or with a volume split
+-- one, with more or fewer copies, with a volume split, or with copies that have moved
 abbrev pub IsToCommit : Result (Option Command) Misfit → ScriptState → ScriptState → Descriptor → Type 0
 IsToCommit (Ok (Some (command.Mkvg force name mib disks))) old new k = k ≡ new_group old.moment.device.sizes (asked_for name mib disks force new.last)
 IsToCommit (Ok (Some (command.ChvgQuorum on name))) old new k = IsSomeAnd old.session (λ core. k ≡ with_quorum on core.descriptor)
@@ -44,11 +53,17 @@ IsToCommit (Ok (Some (command.Rmlv name))) old new k = IsSomeAnd old.session (λ
 IsToCommit (Ok (Some (command.Mklvcopy name copies))) old new k = (core : Core) × (mid : State) × WasDrained old core mid × ((lv : ℕ) × IsNumberOf core.descriptor.lvs name lv × IsWithMore lv copies mid.core k)
 IsToCommit (Ok (Some (command.Rmlvcopy name copies))) old new k = IsSomeAnd old.session (λ core. (lv : ℕ) × IsNumberOf core.descriptor.lvs name lv × IsWithFirst lv copies core k)
 IsToCommit (Ok (Some (command.Splitlvcopy made name copies))) old new k = (core : Core) × (mid : State) × WasDrained old core mid × ((lv : ℕ) × IsNumberOf core.descriptor.lvs name lv × IsSplit lv made copies mid.core k)
+IsToCommit (Ok (Some (command.Migratepv volume from to))) old new k = IsSomeAnd old.session (λ core. (lv : Option ℕ) × IsAsked core.descriptor volume from to lv × HasMovedSome core.descriptor lv from to k)
 IsToCommit other old new k = ⊥
 
--- The line was answered as done or as broken off, and was to commit this descriptor of the group.
+-- it was answered as done, or as broken off; copies may have moved whatever was answered
+abbrev pub MayHaveTried : Result (Option Command) Misfit → Reply → Type 0
+MayHaveTried (Ok (Some (command.Migratepv volume from to))) answer = Unit {0}
+MayHaveTried read answer = (answer ≡ reply.Ok) ⊎ IsBrokenOff answer
+
+-- The line was answered so that it may have tried, and was to commit this descriptor of the group.
 pub record MayHaveCommitted (read : Result (Option Command) Misfit) (answer : Reply) (old new : ScriptState) (id : ℕ) (k : Descriptor) : Type 0 where
-  pub tried : (answer ≡ reply.Ok) ⊎ IsBrokenOff answer
+  pub tried : MayHaveTried read answer
   pub own : id ≡ k.id
   pub is : IsToCommit read old new k
 
@@ -61,6 +76,18 @@ AreHeld s = IfSome s.session (λ core. IsHeld s.moment.device core)
 pub data StoodBefore (run : ℕ) (role : Role) (old new : ScriptState) : Type 0 where
   HeldAtRest : IsAtRest old → AreHeld old → StoodBefore run role old new
   StandsSince : (past : List Fact) (first : Moment) → StandsBy run first old → RunBegins run past first → IsAlone role old new → StoodBefore run role old new
+
+-- What is asked beside of a line on which copies move: the disks stand by its session after some earlier history.
+pub record StandsForMoves (run : ℕ) (role : Role) (old new : ScriptState) : Type 0 where
+  pub past : List Fact
+  pub first : Moment
+  pub stands : StandsBy run first old
+  pub begins : RunBegins run past first
+  pub alone : IsAlone role old new
+
+abbrev pub MayMoveCopies : ℕ → Result (Option Command) Misfit → ScriptState → ScriptState → Type 0
+MayMoveCopies run (Ok (Some (command.Migratepv volume from to))) old new = StandsForMoves run OfRequests old new
+MayMoveCopies run read old new = Unit {0}
 
 -- the commands after which a group is on: it was made, varied on, changed, given a volume or copies more or less, or had a volume split
 abbrev pub is_group_command : Command → Bool
@@ -75,9 +102,10 @@ is_group_command (command.Rmlvcopy name copies) = true
 is_group_command (command.Splitlvcopy made name copies) = true
 is_group_command _ = false
 
--- such a command was answered as done
+-- such a command was answered as done, or copies have moved as they were to
 abbrev pub is_acknowledged : Result (Option Command) Misfit → Reply → Bool
 is_acknowledged (Ok (Some c)) reply.Ok = is_group_command c
+is_acknowledged (Ok (Some (command.Migratepv volume from to))) (reply.Migrated moved) = true
 is_acknowledged read answer = false
 
 -- of the group of the session its descriptor alone, and of another group what there was

@@ -14,7 +14,7 @@ use lvm_io::{Clock, Lines, NextLine, Sink, SinkFault, Source, write_all};
 use lvm_line::below::stage::{Refusal, Reply, Stage, memory_text, refusal_line};
 use lvm_line::{InPlace, answer_line, finish_line};
 use lvm_num::{Memory, Rows, Text};
-use lvm_show::{show_stepped, show_synced};
+use lvm_show::{show_migrated, show_stepped, show_synced};
 use std::alloc::Global;
 
 /// Why a run ends before the input does.
@@ -73,6 +73,9 @@ fn say<O: Sink>(alloc: Global, out: &mut O, answer: Reply) -> (Reply, Result<(),
         Reply::Posted => (Reply::Posted, write_all(out, b"posted\n")),
         Reply::Stepped(turns) => say_late(out, Reply::Stepped(turns), show_stepped(alloc, turns)),
         Reply::Synced(made) => say_late(out, Reply::Synced(made), show_synced(alloc, made)),
+        Reply::Migrated(moved) => {
+            say_late(out, Reply::Migrated(moved), show_migrated(alloc, moved))
+        }
         Reply::Lines(text) => {
             let wrote = write_all(out, text.as_bytes());
             (Reply::Lines(text), wrote)
@@ -114,6 +117,7 @@ fn with_refusals(refused: u32, reply: &Reply) -> u32
         | Reply::Posted
         | Reply::Stepped(_)
         | Reply::Synced(_)
+        | Reply::Migrated(_)
         | Reply::Lines(_) => refused,
     }
 }

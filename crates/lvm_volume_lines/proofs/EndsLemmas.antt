@@ -20,7 +20,7 @@ use Rattle.lvm_core.specs.State.{state_of}
 use Rattle.lvm_range_lines.specs.passed.Driver.{FailsSo}
 use Rattle.lvm_range_lines.specs.passed.Names.{AreAnswered, ended_with}
 use Rattle.lvm_range_lines.specs.passed.Tie.{LeavesSession}
-use Rattle.lvm_range_lines.proofs.passed.Tie.{goes_any, path_frames, path_shape, stays_unstuck}
+use Rattle.lvm_range_lines.proofs.passed.Tie.{goes_any, leaves_move_on, path_frames, path_shape, stays_unstuck}
 use Rattle.lvm_range_lines.specs.passed.GroupLines.{EndsUnasked, patience_of_line, LineGoesOn, Role, IsStuck, most_refusals, HaveRooms, IsBetweenStage, IsClosed, SessionIsClosed, IsFittingStage, history_in, open_in, posts_ended, session_in, shelf_in, state_in, ArePosted, IsAtRest, ScriptState, without_facts, Reply, Stage}
 use Rattle.lvm_range_lines.specs.passed.ReplyVariants as reply
 use Rattle.lvm_range_lines.proofs.passed.GroupLines.{one_refused, LeavesAnswers, end_posts, none_held, IsRun, over_goes, over_landed}
@@ -56,7 +56,7 @@ module _ {S : Type 0} (role : Role) (acts : Acts role) (device : S → Device) (
     facts = ap (λ (l : Log). l.facts) (its_history device stage fits between none core its);
     volumes = broken.volumes;
     between = between;
-    leaves = leaves;
+    went = leaves_move_on (first_at device stage core) end (was_on device stage fits between none core its).sound leaves;
     sound = broken.turned.sound;
   }
 

@@ -27,7 +27,7 @@ use Rattle.lvm_volume_lines.specs.passed.HolderVariants as holder
 use Rattle.lvm_volume_lines.specs.passed.GroupLines.{ArePosted, ComesTo, EndsUnasked, HaveRooms, IsBetweenStage, IsCarriedOn, SessionIsClosed, IsFittingStage, OfRequests, Reply, Stage, ScriptState, is_unheard, most_refusals, patience_of_line, state_in, without_facts}
 use Rattle.lvm_volume_lines.specs.passed.RefusalVariants as refusal
 use Rattle.lvm_volume_lines.specs.passed.ReplyVariants as reply
-use Rattle.lvm_volume_lines.proofs.passed.RangeLines.{RunsTo, carried_ends, carried_leaves, ended_is_over, over_ends, stuck_ends, table_posts, unstuck}
+use Rattle.lvm_volume_lines.proofs.passed.RangeLines.{RunsTo, carried_ends, carried_leaves, ended_is_over, leave_to, over_ends, stuck_ends, table_posts, unstuck}
 use Rattle.lvm_volume_lines.specs.Resyncing.{MayCome, numbers_reply, sync_reply}
 
 -- ---- what may be answered
@@ -184,7 +184,7 @@ module _ {S : Type 0} (device : S → Device) (first : S × Core) (posts : Vec P
   Ends = EndsUnasked device Does ⊥ OfRequests (serving first posts bytes) stage answer
 
   to : RunsTo device first end
-  to = record { leaves = beside.leaves; orders = beside.orders; sound = sound }
+  to = record { went = leave_to device first end beside.leaves; orders = beside.orders; sound = sound }
 
   posted : ArePosted end.1.history.facts (Some end.1) posts.items
   posted = table_posts first.1 end.1 beside.table posts.items between.posted
@@ -193,7 +193,7 @@ module _ {S : Type 0} (device : S → Device) (first : S × Core) (posts : Vec P
   few_then = omega (arith, few)
 
   goes : (end.1.power ≡ power.On → end.1.copy ≡ None) → IsCarriedOn device end posts bytes end.1.power stage → Ends
-  goes shut carried = carried_ends device first posts bytes fits between end to Does posts bytes fits.rooms stage answer few_then does posted rooms shut carried
+  goes shut carried = carried_ends device first posts bytes fits between end to Does posts bytes fits.rooms stage answer few_then does posted rooms shut (unstuck device first posts bytes fits between end beside.leaves) carried
 
   closes : answer ≡ reply.Refused refusal.Stuck → SessionIsClosed device end posts.items stage → Ends
   closes says ended = by end.1.power refl
@@ -202,7 +202,7 @@ module _ {S : Type 0} (device : S → Device) (first : S × Core) (posts : Vec P
       by power.On is = stuck_ends device first posts bytes fits between end to Does posts bytes fits.rooms stage answer few_then does ended rooms is says
       by power.Off is = over_ends device first posts bytes fits between end to Does posts bytes fits.rooms stage answer few_then does ended rooms (ap is_over is) posted
       by power.Dark is = over_ends device first posts bytes fits between end to Does posts bytes fits.rooms stage answer few_then does ended rooms (ap is_over is) posted
-      by power.Stuck is = absurd (unstuck device first posts bytes fits between end to is)
+      by power.Stuck is = absurd (unstuck device first posts bytes fits between end beside.leaves is)
 
   pub synced_ends : (result : Result ℕ SyncFault) → (is_unheard answer ≡ false → end.1.power ≡ power.On → end.1.copy ≡ None) → answer ≡ sync_reply end.1 result → ComesTo device (is_unheard answer) (holder.Serving end) posts bytes stage → Ends
   synced_ends result shut says it = by (is_unheard answer) refl it

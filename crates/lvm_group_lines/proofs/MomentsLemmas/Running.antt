@@ -3,6 +3,7 @@ use Rattle.std.proofs.Common.{◌≡◌, ◌≢◌, ◌==◌, ◌&&◌, ◌||◌
 use Rattle.std.specs.List.{AllByRecursion}
 use Rattle.lvm_num.specs.Buffer.{Buffer}
 use Rattle.lvm_num.specs.declared.descriptor.Descriptor.{Descriptor}
+use Rattle.lvm_num.specs.Descriptor.{is_member}
 use Rattle.lvm_disk.specs.Device.{Device, Flight, IsInFlight}
 use Rattle.lvm_disk.specs.Images.{LeavesNoMore}
 use Rattle.lvm_disk.specs.Paths.{DeviceStep, Path, Here}
@@ -17,7 +18,6 @@ use Rattle.lvm_steps.specs.Behind.{beginning_at}
 use Rattle.lvm_steps.specs.Laws.{LeavesBefore}
 use Rattle.lvm_steps.proofs.LawsLemmas.Shelves.{left_is_before}
 use Rattle.lvm_session.specs.declared.open.Open.{Open}
-use Rattle.lvm_session.specs.declared.origin.Origin.{Origin}
 use Rattle.lvm_session.specs.declared.open.Power.{Power}
 use Rattle.lvm_session.specs.declared.open.Power.TheVariants as power
 use Rattle.lvm_session.specs.Causes.{is_over}
@@ -27,11 +27,11 @@ use Rattle.lvm_session.specs.Sound.{HasPower, IsSound, is_dark, waits}
 use Rattle.lvm_session.specs.State.{Core, State, state}
 use Rattle.lvm_status.specs.Members.{HasItsRows}
 use Rattle.lvm_quiesce.specs.passed.Names.{HaveAllLanded}
-use Rattle.lvm_tie_commands.specs.passed.Tie.{IsGood, moment_of, IsBefore, LeavesSession}
-use Rattle.lvm_group_lines.specs.passed.Tie.{StaysGood}
+use Rattle.lvm_tie_commands.specs.passed.Tie.{IsGood, moment_of, IsBefore}
+use Rattle.lvm_group_lines.specs.passed.Tie.{MovesOn}
 use Rattle.lvm_quiesce.specs.Behind.{IsAheadEach}
 use Rattle.lvm_tie_commands.specs.Standing.{StandsAfter}
-use Rattle.lvm_group_lines.proofs.passed.Tie.{going_leaves, is_stamped, path_shape, stays_stamped}
+use Rattle.lvm_group_lines.proofs.passed.Tie.{is_stamped, moved_stamped}
 use Rattle.lvm_group_lines.specs.Moments.{LineGoesOn, HasBegunHeld, IsAlone, IsRequesting, Role}
 use Rattle.lvm_group_lines.specs.Replies.{IsStuck, most_refusals}
 use Rattle.lvm_group_lines.specs.Stages.{IsClosed}
@@ -92,7 +92,7 @@ pub record IsRun (role : Role) (old : ScriptState) (core : Core) (end : State) :
   pub facts : old.moment.facts ≡ core.history.facts
   pub volumes : core.descriptor.lvs ≢ []
   pub between : IsBetween old.moment old.session old.posts
-  pub leaves : LeavesSession (state old.moment.device core) end
+  pub went : MovesOn (state old.moment.device core) end
   pub sound : IsSound end
 
 module _ (role : Role) (old : ScriptState) (core : Core) (end : State) (its : IsRun role old core end) where
@@ -102,9 +102,16 @@ module _ (role : Role) (old : ScriptState) (core : Core) (end : State) (its : Is
   on_first : IsOnBetween old.moment.device core
   on_first = subst (λ (o : Option Core). IfSome o (IsOnBetween old.moment.device)) its.session its.between.session
 
-  -- the theorem of what leads to it
-  stays_good : StaysGood first_session end
-  stays_good = (going_leaves first_session end on_first.sound its.leaves).1
+  -- what leads to it
+  stays_good : MovesOn first_session end
+  stays_good = its.went
+
+  -- the group has its volumes, and a row of the first status for each member
+  has_volumes : end.core.descriptor.lvs ≢ []
+  has_volumes none = its.volumes (its.went.keeps.volumes none)
+
+  has_rows : HasItsRows core.descriptor core.origin.table → HasItsRows end.core.descriptor end.core.origin.table
+  has_rows rows disk = its.went.keeps.rows disk ∙ rows disk ∙ sym (ap (λ (d : Descriptor). is_member d disk) its.went.keeps.alike)
 
   moment_is : old.moment ≡ moment_of first_session
   moment_is = ap (λ (fs : List Fact). at old.moment.device fs) its.facts
@@ -126,7 +133,7 @@ module _ (role : Role) (old : ScriptState) (core : Core) (end : State) (its : Is
 
     pub stands_then : end.core.power ≡ power.On → (past : List Fact) → RunBegins core.history.run past first → StandsAfter past end.device end.core
     stands_then on past begins = record {
-      empty = λ none. absurd (its.volumes (sym (ap (λ (d : Descriptor). d.lvs) (path_shape its.leaves).descriptor) ∙ none));
+      empty = λ none. absurd (has_volumes none);
       tied = λ some. good_end on past begins;
       spares = λ some. (stays_good.descriptors its.between.descriptors).spares ((stands_first past begins).spares its.volumes);
     }
@@ -176,17 +183,17 @@ module _ (role : Role) (old : ScriptState) (core : Core) (end : State) (its : Is
         session = record {
           power = on;
           sound = its.sound;
-          stamped = stays_stamped first_session end stays_good not_dark on_first.stamped;
-          rows = subst (λ (d : Descriptor). HasItsRows d end.core.origin.table) (sym (path_shape its.leaves).descriptor) (subst (λ (o : Origin). HasItsRows core.descriptor o.table) (sym (path_shape its.leaves).origin) on_first.rows);
+          stamped = moved_stamped first_session end stays_good not_dark on_first.stamped;
+          rows = has_rows on_first.rows;
           copy = copy;
-          empty = λ none. absurd (its.volumes (sym (ap (λ (d : Descriptor). d.lvs) (path_shape its.leaves).descriptor) ∙ none));
+          empty = λ none. absurd (has_volumes none);
         };
         posted = posted;
       };
       rests = λ not_asking heard rest. subst IsAtRest is (rests not_asking rest);
       begins = λ timely facts kept. was_session old.session core (IfSome (Some end.core) (HasBegunHeld end.device)) its.session;
       power = lit.power;
-      waits = (path_shape its.leaves).counts.waits;
+      waits = its.went.keeps.counts.waits;
       clock = omega arith;
       few = few;
     }
@@ -238,7 +245,7 @@ module _ (role : Role) (old : ScriptState) (core : Core) (end : State) (its : Is
       rests = λ not_asking heard rest. rests not_asking rest;
       begins = λ timely facts kept. was_session old.session core (IfSome new.session (HasBegunHeld new.moment.device)) its.session;
       power = it.lit.power;
-      waits = let w = (path_shape its.leaves).counts.waits in let same = it.waited in omega (arith, w, same);
+      waits = let w = its.went.keeps.counts.waits in let same = it.waited in omega (arith, w, same);
       clock = let same = clock in omega (arith, same);
       few = few;
     }

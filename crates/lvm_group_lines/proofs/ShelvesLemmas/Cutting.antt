@@ -28,7 +28,7 @@ use Rattle.lvm_session.specs.Turns.{ArrangesSession}
 use Rattle.lvm_keeps.proofs.KeepsLemmas.Orders.{order_keeps}
 use Rattle.lvm_group_lines.specs.passed.Names.{HaveAllLanded, IsSettled as IsSettledCore, Post, AreAnswered, ended_with}
 use Rattle.lvm_group_lines.proofs.passed.Names.{cut_landed, over_answered}
-use Rattle.lvm_group_lines.proofs.passed.Tie.{order_leaves}
+use Rattle.lvm_group_lines.proofs.passed.Tie.{leaves_move_on, order_leaves}
 use Rattle.lvm_group_lines.specs.passed.Quiesce.{IsAheadEach}
 use Rattle.lvm_group_lines.proofs.passed.Quiesce.{fewer_stay_behind}
 use Rattle.lvm_group_lines.specs.passed.TieCommands.{StandsAfter}
@@ -134,7 +134,7 @@ module _ (log : Log) (word : ℕ) (old new : ScriptState) (between : IsBetween o
       facts = ap (λ (l : Log). l.facts) (sym history);
       volumes = λ none. more (on.empty none).quiet.requests;
       between = between;
-      leaves = order_leaves begun end (arrange.Cut word) true (unstuck_by core on.power) arranges;
+      went = leaves_move_on begun end on.sound (order_leaves begun end (arrange.Cut word) true (unstuck_by core on.power) arranges);
       sound = sound;
     }
 

@@ -303,6 +303,7 @@ known log room (Ok (Some (command.Post name at count word))) why old new between
 known log room (Ok (Some command.Wait)) why old new between does = (let told = wait_told old new between why does in record { cause = told.cause; off = told.off; unwritten = λ h t is. absurd (told.counted h t is) })
 known log room (Ok (Some (command.SyncVolume name))) why old new between does = (let told = sync_volume_told old new between name why does in record { cause = told.cause; off = told.off; unwritten = λ h t is. absurd (told.counted h t is) })
 known log room (Ok (Some (command.SyncGroup name))) why old new between does = (let told = sync_group_told old new between name why does in record { cause = told.cause; off = told.off; unwritten = λ h t is. absurd (told.counted h t is) })
+known log room (Ok (Some (command.Migratepv volume from to))) why old new between does = (let told = migratepv_told old new between volume from to why does in record { cause = told.cause; off = told.off; unwritten = λ h t is. absurd (told.counted h t is) })
 known log room (Ok (Some (command.Step turns))) why old new between does = (let told = step_told old new between turns why does in record { cause = told.cause; off = told.off; unwritten = λ h t is. absurd (told.counted h t is) })
 known log room (Ok (Some (command.Lslv name))) why old new between (NoGroupForVolume none is, same) = by_reply _ why refusal.NoGroup old new is (easy _ refusal.NoGroup old new tt (λ e. cc) (λ h t e. cc))
 known log room (Ok (Some (command.Lslv name))) why old new between (VolumeOfGroup core some (NoSuchVolume none is), same) = by_reply _ why refusal.NoVolume old new is (easy _ refusal.NoVolume old new tt (λ e. cc) (λ h t e. cc))

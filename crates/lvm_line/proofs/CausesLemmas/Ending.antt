@@ -17,12 +17,11 @@ use Rattle.lvm_session.specs.Judging.{is_waiting}
 use Rattle.lvm_session.specs.Sound.{IsSound, outcome_by, outcome_in}
 use Rattle.lvm_session.specs.State.{Core, State, state}
 use Rattle.lvm_volume_lines.specs.passed.Tie.{LeavesSession}
-use Rattle.lvm_volume_lines.proofs.passed.Tie.{path_shape}
 use Rattle.lvm_volume_lines.specs.passed.GroupLines.{ArePosted, CutDoes, CutNotPlanned, IsBetween, IsOnBetween, PowerIsCut, Reply, ScriptState, history_after, log_with}
 use Rattle.lvm_volume_lines.specs.passed.RangeLines.{CarriesBy, FailsIf, IsOverWith}
 use Rattle.lvm_line.specs.Told.{OutcomeCause, PostsEndForCause}
 use Rattle.lvm_line.proofs.CausesLemmas.Landing.{landing_cause}
-use Rattle.lvm_line.proofs.CausesLemmas.Turns.{dark_cause, over_counts}
+use Rattle.lvm_line.proofs.CausesLemmas.Turns.{WentWithin, by_leaves, over_counts, went_dark}
 
 same_outcome : {F G : List Fact} → F ≡ G → (id : ℕ) {how : Outcome} → outcome_in F id ≡ Some how → outcome_in G id ≡ Some how
 same_outcome same id {how} told = subst (λ (fs : List Fact). outcome_in fs id ≡ Some how) same told
@@ -41,12 +40,12 @@ module _ (old new : ScriptState) (between : IsBetween old.moment old.session old
   same_ends same none = off_ends (sym (ap (λ (s : ScriptState). s.session) same) ∙ none) none
 
   -- it was on, and has come to this
-  module _ (core : Core) (on : old.session ≡ Some core) (end : State) (leaves : LeavesSession (state old.moment.device core) end) (sound : IsSound end) where
-    pub over_ends : IsOverWith end old.posts old.last new → PostsEndForCause old new
+  module _ (core : Core) (on : old.session ≡ Some core) (end : State) (went : WentWithin old core end) (sound : IsSound end) where
+    over_ends : IsOverWith end old.posts old.last new → PostsEndForCause old new
     over_ends over none k d less own j how low told =
         let counts = over_counts end old.posts old.last new over in
-        landing_cause old new core on end sound (path_shape leaves).origin (λ disk. let same = ap (λ (n : Counts). n.faults disk) counts in omega (arith, same))
-        (dark_cause old new core end between leaves sound counts)
+        landing_cause old new core on end sound went.faults (λ disk. let same = ap (λ (n : Counts). n.faults disk) counts in omega (arith, same))
+        (went_dark old new core end between went sound counts)
         _ how ((over.stood.each k d less).held own j low) (same_outcome over.facts _ told)
 
     carried_ends : (p : Power) → CarriesBy p end old.posts old.last new → PostsEndForCause old new
@@ -55,12 +54,16 @@ module _ (old new : ScriptState) (between : IsBetween old.moment old.session old
     carried_ends power.Dark over = over_ends over
     carried_ends power.Stuck over = over_ends over
 
+    pub went_fails : (b : Bool) → FailsIf b end old.posts old.last new → PostsEndForCause old new
+    went_fails true over = over_ends over
+    went_fails false it = carried_ends end.core.power it
+
+  module _ (core : Core) (on : old.session ≡ Some core) (end : State) (leaves : LeavesSession (state old.moment.device core) end) (sound : IsSound end) where
     pub carries_ends : CarriesBy end.core.power end old.posts old.last new → PostsEndForCause old new
-    carries_ends it = carried_ends end.core.power it
+    carries_ends it = carried_ends core on end (by_leaves old core end leaves) sound end.core.power it
 
     pub fails_ends : (b : Bool) → FailsIf b end old.posts old.last new → PostsEndForCause old new
-    fails_ends true over = over_ends over
-    fails_ends false it = carries_ends it
+    fails_ends = went_fails core on end (by_leaves old core end leaves) sound
 
 -- ---- a power cut that is ordered
 

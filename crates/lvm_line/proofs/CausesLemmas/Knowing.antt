@@ -30,6 +30,7 @@ IsOther (Ok (Some (command.Post name at count word))) = ⊥
 IsOther (Ok (Some command.Wait)) = ⊥
 IsOther (Ok (Some (command.SyncVolume name))) = ⊥
 IsOther (Ok (Some (command.SyncGroup name))) = ⊥
+IsOther (Ok (Some (command.Migratepv volume from to))) = ⊥
 IsOther (Ok (Some (command.Step turns))) = ⊥
 IsOther read = Unit {0}
 
@@ -41,5 +42,6 @@ has_by (Ok (Some (command.Post name at count word))) why old new other holds = a
 has_by (Ok (Some command.Wait)) why old new other holds = absurd other
 has_by (Ok (Some (command.SyncVolume name))) why old new other holds = absurd other
 has_by (Ok (Some (command.SyncGroup name))) why old new other holds = absurd other
+has_by (Ok (Some (command.Migratepv volume from to))) why old new other holds = absurd other
 has_by (Ok (Some (command.Step turns))) why old new other holds = absurd other
 has_by read why old new other holds = holds

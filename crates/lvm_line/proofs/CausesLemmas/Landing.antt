@@ -11,7 +11,6 @@ use Rattle.lvm_vol.specs.declared.entry.Outcome.TheVariants as outcome
 use Rattle.lvm_vol.proofs.LogLemmas.{and_right}
 use Rattle.lvm_session.specs.declared.open.Open.{Open}
 use Rattle.lvm_session.specs.declared.open.Power.TheVariants as power
-use Rattle.lvm_session.specs.declared.origin.Origin.{Origin}
 use Rattle.lvm_session.specs.Calls.{is_asked}
 use Rattle.lvm_session.specs.Causes.{AnyFailedSince, AreCounted, TargetHasFailed, IsAnswered, IsCounted, IsLandedFor}
 use Rattle.lvm_session.specs.Sound.{IsAsked, IsSound, outcome_in}
@@ -56,13 +55,13 @@ all_second A P test (x ∷ xs) all = (λ passes. all.0.1, all_second A P test xs
 -- ---- what has happened
 
 -- the session of a line at some moment, from which its shelf's counts go on to the line's end
-module _ (old new : ScriptState) (core : Core) (on : old.session ≡ Some core) (s : State) (sound : IsSound s) (origin : s.core.origin ≡ core.origin) (later : (disk : ℕ) → s.device.counts.faults disk ≤ new.moment.device.counts.faults disk)
+module _ (old new : ScriptState) (core : Core) (on : old.session ≡ Some core) (s : State) (sound : IsSound s) (origin : s.core.origin.faults ≡ core.origin.faults) (later : (disk : ℕ) → s.device.counts.faults disk ≤ new.moment.device.counts.faults disk)
     (dark : s.core.power ≡ power.Dark → Rose old.moment.device.counts.cuts new.moment.device.counts.cuts) where
   pub since : AnyFailedSince s → HasFailedSince old new
   since failed = record {
     core = core;
     on = on;
-    failed = (failed.0, rose_after (subst (λ (o : Origin). Rose (slice_index_or o.faults failed.0 0) (s.device.counts.faults failed.0)) origin failed.1) (later failed.0));
+    failed = (failed.0, rose_after (subst (λ (faults : List ℕ). Rose (slice_index_or faults failed.0 0) (s.device.counts.faults failed.0)) origin failed.1) (later failed.0));
   }
 
   landed_for : (o : Open) → AreCounted s o → (how : Outcome) → IsLandedFor s o how → OutcomeCause old new how

@@ -16,9 +16,11 @@ use Rattle.lvm_volume_lines.specs.passed.ReplyVariants as reply
 use Rattle.lvm_volume_lines.specs.passed.Resync.{Copy, SyncFault}
 use Rattle.lvm_volume_lines.proofs.passed.Tie.{goes_any}
 use Rattle.lvm_volume_lines.specs.Resyncing.{IsSynced, NoGroupForSync, NoVolumeForSync, NothingSyncs, OtherGroupForSync, SyncGroupDoes, SyncVolumeDoes, SyncsGroup, SyncsVolume}
+use Rattle.lvm_move_lines.specs.Moving.{MigratepvDoes, MovesCopies, NoGroupForMoves, NotAskedForMoves, NothingMoves as MovesNone}
 use Rattle.lvm_line.specs.Lines.{LineDoes}
 use Rattle.lvm_line.specs.Told.{EachTold, IsDoneOrLacks, IsToldFor, IsWellTold, NothingSince, PostsEndForCause, ToldCause, ToldLaw, ToldWellLaw}
-use Rattle.lvm_line.proofs.CausesLemmas.Ending.{carries_ends, cut_ends, fails_ends, same_ends}
+use Rattle.lvm_line.proofs.CausesLemmas.Ending.{carries_ends, cut_ends, fails_ends, same_ends, went_fails}
+use Rattle.lvm_line.proofs.CausesLemmas.Turns.{by_moves, moves_on}
 use Rattle.lvm_line.proofs.CausesLemmas.Telling.{wait_told}
 
 module _ (old new : ScriptState) (between : IsBetween old.moment old.session old.posts) where
@@ -47,6 +49,13 @@ module _ (old new : ScriptState) (between : IsBetween old.moment old.session old
   sync_group_ends name answer (NothingSyncs core on named none says same) = same_ends old new between same
   sync_group_ends name answer (SyncsGroup core on named volumes its) = synced_ends _ _ core answer on its
 
+  migratepv_ends : (volume : Option (List ℕ)) (from to : ℕ) (answer : Reply) → MigratepvDoes volume from to old new answer → PostsEndForCause old new
+  migratepv_ends volume from to answer (NoGroupForMoves off is) = same_ends old new between is.1
+  migratepv_ends volume from to answer (NotAskedForMoves core why on not_asked is) = same_ends old new between is.1
+  migratepv_ends volume from to answer (MovesNone core lv on asked none says same) = same_ends old new between same
+  migratepv_ends volume from to answer (MovesCopies core lv on asked volumes its) =
+      went_fails old new between core on its.end (by_moves old core its.end (moves_on old new between core its.end on its.way.leaves)) its.sound (is_unheard answer) its.leaves
+
   told : (log : Log) (room : Room) (read : Result (Option Command) Misfit) (answer : Reply) → LineDoes log room read old new answer → ToldCause read answer old new
   told log room (Ok (Some command.Wait)) (reply.Answers text refused) does = wait_told old new between text refused does
   told log room (Ok (Some (command.Rd name at count))) answer does = range_ends name None _ at count answer does
@@ -54,6 +63,7 @@ module _ (old new : ScriptState) (between : IsBetween old.moment old.session old
   told log room (Ok (Some (command.Step turns))) answer does = step_ends turns answer does
   told log room (Ok (Some (command.SyncVolume name))) answer does = sync_volume_ends name answer does
   told log room (Ok (Some (command.SyncGroup name))) answer does = sync_group_ends name answer does
+  told log room (Ok (Some (command.Migratepv volume from to))) answer does = migratepv_ends volume from to answer does
   told log room (Ok (Some (command.Cut word))) answer does = cut_ends log word old new between answer does
   told log room read answer does = tt
 

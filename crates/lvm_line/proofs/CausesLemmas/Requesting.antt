@@ -1,5 +1,5 @@
 -- What lines of requests are refused for.
-use Rattle.std.proofs.Common.{◌≡◌, ℕ, Bool, true, false, List, Option, Some, None, Result, Ok, Err, if◌then◌else◌, ap, subst, arith}
+use Rattle.std.proofs.Common.{◌≡◌, ℕ, Bool, true, false, List, Option, Some, None, Result, Ok, Err, if◌then◌else◌, ◌∙◌, ap, subst, arith}
 use Rattle.std.specs.Prelude.{IfErr}
 use Rattle.lvm_num.specs.Votes.{total_votes}
 use Rattle.lvm_disk.specs.Counts.{Counts}
@@ -9,6 +9,10 @@ use Rattle.lvm_session.specs.declared.answers.Turned.TheVariants as turned
 use Rattle.lvm_session.specs.Calls.{has_numbers}
 use Rattle.lvm_session.specs.State.{Core, State, votes_there}
 use Rattle.lvm_volume_lines.proofs.passed.Names.{votes_go}
+use Rattle.lvm_line.proofs.CausesLemmas.Votes.{moved_votes_go}
+use Rattle.lvm_num.specs.declared.descriptor.Descriptor.{Descriptor}
+use Rattle.lvm_num.specs.Status.{calls_missing}
+use Rattle.lvm_session.specs.declared.open.Power.TheVariants as power
 use Rattle.lvm_posts.specs.declared.asked.Asked.{Asked}
 use Rattle.lvm_posts.specs.declared.fault.RangeFault.{RangeFault}
 use Rattle.lvm_posts.specs.declared.fault.RangeFault.TheVariants as fault
@@ -24,8 +28,13 @@ use Rattle.lvm_volume_lines.specs.passed.RefusalVariants as refusal
 use Rattle.lvm_volume_lines.specs.passed.ReplyVariants as reply
 use Rattle.lvm_volume_lines.proofs.passed.Ranges.{off_votes}
 use Rattle.lvm_volume_lines.proofs.passed.Tie.{goes_any, path_shape}
+use Rattle.lvm_move_lines.specs.Asking.{IsNotAsked}
+use Rattle.lvm_move_lines.specs.Moving.{IsMigrated, MigratepvDoes, MovesCopies, NoGroupForMoves, NotAskedForMoves, NothingMoves as MovesNone, empty_reply, move_reply}
+use Rattle.lvm_move_lines.specs.passed.Migrate.{MoveCause, MoveFault}
+use Rattle.lvm_move_lines.specs.passed.MoveFaultVariants as move
+use Rattle.lvm_volume_lines.specs.passed.Tie.{MovesOn}
 use Rattle.lvm_line.specs.Causes.{TurnCause}
-use Rattle.lvm_line.proofs.CausesLemmas.Turns.{dark_cause, failed_cause, fails_counts, leaves_counts, off_cause, over_counts, stuck_cause}
+use Rattle.lvm_line.proofs.CausesLemmas.Turns.{WentWithin, by_moves, dark_cause, failed_cause, fails_counts, leaves_counts, moves_on, off_cause, over_counts, stuck_cause, went_dark, went_off, went_stuck}
 
 -- what has happened for it; no group is on where nothing was heard of a transfer; and it isn't that votes are lacking for a quorum
 pub record Told (why : Refusal) (old new : ScriptState) : Type 0 where
@@ -168,6 +177,70 @@ module _ (old new : ScriptState) (between : IsBetween old.moment old.session old
       by true e = absurd (cc (e))
       by false e = told_by why refusal.HistoryFull old new e (told_easy refusal.HistoryFull old new tt (λ i. cc) (λ h t i. cc))
   sync_group_told name why (SyncsGroup core some named volumes its) = synced_told group_fault (group_copies core.descriptor) core why some its
+
+  -- ---- migratepv
+
+  migrated_told : (lv : Option ℕ) (from to : ℕ) (core : Core) (why : Refusal) → old.session ≡ Some core → IsMigrated lv from to core old new (reply.Refused why) → Told why old new
+  migrated_told lv from to core why some its = by its.result its.caused its.says
+    where
+      end : State
+      end = its.end
+
+      moves : MovesOn (session_over old core) end
+      moves = moves_on old new between core end some its.way.leaves
+
+      went : WentWithin old core end
+      went = by_moves old core end moves
+
+      counts : new.moment.device.counts ≡ end.device.counts
+      counts = fails_counts end old.posts old.last new (is_unheard (reply.Refused why)) its.leaves
+
+      unheard : is_unheard (reply.Refused why) ≡ true → new.session ≡ None
+      unheard is = (subst (λ (b : Bool). FailsIf b end old.posts old.last new) is its.leaves).session
+
+      told_off : (have total : ℕ) → end.core.power ≡ power.Off → have ≡ votes_there end.core → total ≡ total_votes end.core.descriptor → reply.Refused why ≡ reply.Refused (refusal.WentOff have total) → Told why old new
+      told_off have total off have_is total_is is =
+          told_by why _ old new (is ∙ ap (λ n. reply.Refused (refusal.WentOff n total)) have_is ∙ ap (λ n. reply.Refused (refusal.WentOff (votes_there end.core) n)) total_is) (told_easy (refusal.WentOff (votes_there end.core) (total_votes end.core.descriptor)) old new
+          (went_off old new core end between went its.sound counts (votes_there end.core) (total_votes end.core.descriptor) some (off_votes end its.sound off)
+          (moved_votes_go (session_over old core) end moves.keeps.alike its.way.loses (its.sound.off off))) (λ e. cc) (λ h t e. cc))
+
+      by : (r : Result ℕ MoveFault) → IfErr r (MoveCause its.left (session_over old core) end) → reply.Refused why ≡ move_reply r → Told why old new
+      by (Ok moved) caused is = absurd (cc (is))
+      by (Err move.Dark) dark is = told_by why refusal.Dark old new is (told_easy refusal.Dark old new (went_dark old new core end between went its.sound counts dark) (λ e. cc) (λ h t e. cc))
+      by (Err (move.WentOff have total)) off is = told_off have total off.0 off.1.0 off.1.1 is
+      by (Err move.Stuck) none is = told_by why refusal.Stuck old new is
+          (record { cause = went_stuck old new core end between went its.sound counts its.left none its.beside.waited; off = λ stuck. unheard (ap is_unheard is); counted = λ h t e. cc })
+      by (Err (move.SyncFailed disk)) failed is = told_by why _ old new is (told_easy (refusal.SyncFailed disk) old new (record {
+        core = core;
+        on = some;
+        failed = (failed.0, rose_after failed.1 (let same = ap (λ (n : Counts). n.faults failed.0) counts in omega (arith, same)));
+      }) (λ e. cc) (λ h t e. cc))
+      by (Err move.Busy) caused is = told_by why refusal.Busy old new is (told_easy refusal.Busy old new tt (λ e. cc) (λ h t e. cc))
+      by (Err (move.Missing disk)) caused is = told_by why _ old new is (told_easy (refusal.Missing disk) old new tt (λ e. cc) (λ h t e. cc))
+      by (Err (move.Strict lp)) caused is = told_by why _ old new is (told_easy (refusal.Strict lp) old new tt (λ e. cc) (λ h t e. cc))
+      by (Err (move.NoRoom free)) caused is = told_by why _ old new is (told_easy (refusal.NoRoom free) old new tt (λ e. cc) (λ h t e. cc))
+      by (Err move.HistoryFull) caused is = told_by why refusal.HistoryFull old new is (told_easy refusal.HistoryFull old new tt (λ e. cc) (λ h t e. cc))
+      by (Err (move.NoFresh lp)) caused is = told_by why _ old new is (told_easy (refusal.NoFresh lp) old new tt (λ e. cc) (λ h t e. cc))
+      by (Err move.Memory) caused is = told_by why refusal.Memory old new is (told_easy refusal.Memory old new tt (λ e. cc) (λ h t e. cc))
+
+  not_asked_told : (d : Descriptor) (volume : Option (List ℕ)) (from to : ℕ) (why : Refusal) → IsNotAsked d volume from to why → Told why old new
+  not_asked_told d volume from to (refusal.NoDisk disk) it = told_easy (refusal.NoDisk disk) old new tt (λ e. cc) (λ h t e. cc)
+  not_asked_told d volume from to refusal.NoVolume it = told_easy refusal.NoVolume old new tt (λ e. cc) (λ h t e. cc)
+  not_asked_told d volume from to why it = absurd it
+
+  empty_told : (core : Core) (to : ℕ) (why : Refusal) → reply.Refused why ≡ empty_reply core to → Told why old new
+  empty_told core to why is = by (calls_missing core.status.committed to) (has_numbers core) is
+    where
+      by : (missing numbers : Bool) → reply.Refused why ≡ (if missing then reply.Refused (refusal.Missing to) else if numbers then reply.Migrated 0 else reply.Refused refusal.HistoryFull) → Told why old new
+      by true numbers e = told_by why (refusal.Missing to) old new e (told_easy (refusal.Missing to) old new tt (λ i. cc) (λ h t i. cc))
+      by false true e = absurd (cc (e))
+      by false false e = told_by why refusal.HistoryFull old new e (told_easy refusal.HistoryFull old new tt (λ i. cc) (λ h t i. cc))
+
+  pub migratepv_told : (volume : Option (List ℕ)) (from to : ℕ) (why : Refusal) → MigratepvDoes volume from to old new (reply.Refused why) → Told why old new
+  migratepv_told volume from to why (NoGroupForMoves off is) = told_by why refusal.NoGroup old new is.0 (told_easy refusal.NoGroup old new tt (λ e. cc) (λ h t e. cc))
+  migratepv_told volume from to why (NotAskedForMoves core other some not_asked is) = told_by why other old new is.0 (not_asked_told core.descriptor volume from to other not_asked)
+  migratepv_told volume from to why (MovesNone core lv some asked none says same) = empty_told core to why says
+  migratepv_told volume from to why (MovesCopies core lv some asked volumes its) = migrated_told lv from to core why some its
 
   -- ---- step
 

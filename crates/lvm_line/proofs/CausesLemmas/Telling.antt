@@ -12,6 +12,7 @@ use Rattle.lvm_disk.specs.Counts.{Counts}
 use Rattle.lvm_session.specs.declared.open.Power.TheVariants as power
 use Rattle.lvm_session.specs.Calls.{is_asked}
 use Rattle.lvm_session.specs.Causes.{AnyFailedSince, faults_at_first}
+use Rattle.lvm_session.specs.declared.origin.Origin.{Origin}
 use Rattle.lvm_session.specs.Sound.{IsSound, outcome_by, outcome_in}
 use Rattle.lvm_session.specs.State.{Core, State, state, votes_there}
 use Rattle.lvm_posts.specs.declared.fault.RangeFault.{RangeFault}
@@ -114,7 +115,7 @@ module _ (old new : ScriptState) where
       answers = waits.answers;
       tells = waits.tells;
       caused = going_told mid
-          (since old new core on mid sound origin
+          (since old new core on mid sound (ap (λ (o : Origin). o.faults) origin)
           (λ disk. let more = (path_frames waits.runs).keeps.counts.faults disk in let same = ap (λ (s : ScriptState). s.moment.device.counts.faults disk) waits.goes in omega (arith, more, same))
           (λ dark. absurd (let e : power.On ≡ power.Dark = sym is_on ∙ dark in cc e)))
           waits.takes (posts_have_causes mid waits.end old.posts waits.answers waits.takes sound is_on);
@@ -148,7 +149,7 @@ module _ (old new : ScriptState) where
           answers = over.waits.answers;
           tells = over.waits.tells;
           caused = over_told mid
-              (landing_cause old new core on mid sound (path_shape leaves).origin (λ disk. let same = ap (λ (n : Counts). n.faults disk) counts in omega (arith, same)) (dark_cause old new core mid between leaves sound counts))
+              (landing_cause old new core on mid sound (ap (λ (o : Origin). o.faults) (path_shape leaves).origin) (λ disk. let same = ap (λ (n : Counts). n.faults disk) counts in omega (arith, same)) (dark_cause old new core mid between leaves sound counts))
               have total old.posts (λ k d less. (over.ends.stood.each k d less).held) over.waits.answers
               (subst (λ (fs : List Fact). EachTold (EndsAs fs) (map (ended_with have total) old.posts) over.waits.answers) over.ends.facts
               (subst (λ (ps : List Post). EachTold (EndsAs over.closed.moment.facts) ps over.waits.answers) over.ends.posted (gone_so over.waits.takes).1));

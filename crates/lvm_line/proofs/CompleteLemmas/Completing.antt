@@ -72,6 +72,7 @@ module _ (old new : ScriptState) where
   is_own (Ok (Some command.Wait)) nothing why cause = turn_own _ nothing why cause
   is_own (Ok (Some (command.SyncVolume name))) nothing why cause = turn_own _ nothing why cause
   is_own (Ok (Some (command.SyncGroup name))) nothing why cause = turn_own _ nothing why cause
+  is_own (Ok (Some (command.Migratepv volume from to))) nothing why cause = turn_own _ nothing why cause
   is_own (Ok (Some (command.Step turns))) nothing why cause = turn_own _ nothing why cause
   is_own read nothing why cause = own_of read nothing why cause
 

@@ -1,8 +1,7 @@
 -- What a line leaves that has run the session of a group with volumes.
-use Rattle.std.proofs.Common.{◌≡◌, ◌≢◌, ◌<◌, ◌≤◌, ◌+◌, ◌^◌, ℕ, true, List, [], Some, None, length, refl, sym, ◌∙◌, ap, subst, arith}
+use Rattle.std.proofs.Common.{◌≡◌, ◌≢◌, ◌<◌, ◌≤◌, ◌+◌, ◌^◌, ℕ, Bool, true, false, List, [], Some, None, length, refl, sym, ◌∙◌, ap, subst, arith}
 use Rattle.std.specs.Global.{Vec}
 use Rattle.std.proofs.lemmas.List.{length-map}
-use Rattle.lvm_num.specs.declared.descriptor.Descriptor.{Descriptor}
 use Rattle.lvm_num.specs.Votes.{total_votes}
 use Rattle.lvm_num.specs.Buffer.{Buffer}
 use Rattle.lvm_disk.specs.Device.{Device}
@@ -17,9 +16,9 @@ use Rattle.lvm_session.specs.declared.open.Power.{Power}
 use Rattle.lvm_session.specs.declared.open.Power.TheVariants as power
 use Rattle.lvm_session.specs.Causes.{is_over}
 use Rattle.lvm_session.specs.Sound.{HasPower, IsSound, is_dark}
-use Rattle.lvm_group_lines.specs.passed.Tie.{moment_of, LeavesSession, RunsOn}
+use Rattle.lvm_group_lines.specs.passed.Tie.{moment_of, LeavesSession, MovesOn, RunsOn}
 use Rattle.lvm_session.specs.State.{Core, votes_there, state_of}
-use Rattle.lvm_group_lines.proofs.passed.Tie.{goes_any, path_frames, path_shape, stays_unstuck}
+use Rattle.lvm_group_lines.proofs.passed.Tie.{goes_any, leaves_move_on, path_frames, path_shape, stays_unstuck}
 use Rattle.lvm_posts.specs.declared.posts.Post.{Post}
 use Rattle.lvm_posts.specs.Posts.{ended_with}
 use Rattle.lvm_posts.proofs.PostsLemmas.{over_answered}
@@ -68,16 +67,27 @@ closed_orders power.Off old new is = ap (λ (d : Device). d.orders) is
 closed_orders power.Dark old new is = ap (λ (d : Device). d.orders) is
 closed_orders power.Stuck old new is = ap (λ (d : Device). d.orders) is
 
+-- what isn't dark stays as it is, but that buffers are taken back
+undark_closed : (p : Power) (old new : Device) → is_dark p ≡ false → IsClosed p old new → new ≡ record old { freed = [] }
+undark_closed power.On old new undark is = is
+undark_closed power.Off old new undark is = is
+undark_closed power.Dark old new undark is = absurd (cc undark)
+undark_closed power.Stuck old new undark is = is
+
 -- ---- the line
 
 -- where its session has run to
 pub record RunsTo {S : Type 0} (device : S → Device) (first end : S × Core) : Type 0 where
-  pub leaves : LeavesSession (state_of device first) (state_of device end)
+  pub went : IsSound (state_of device first) → MovesOn (state_of device first) (state_of device end)
   pub orders : (device end.0).orders ≡ (device first.0).orders
   pub sound : IsSound (state_of device end)
 
+-- by calls on which no copy moves
+pub leave_to : {S : Type 0} (device : S → Device) (first end : S × Core) → LeavesSession (state_of device first) (state_of device end) → IsSound (state_of device first) → MovesOn (state_of device first) (state_of device end)
+leave_to device first end leaves sound = leaves_move_on (state_of device first) (state_of device end) sound leaves
+
 pub runs_to : {S : Type 0} (device : S → Device) (first end : S × Core) → RunsOn (state_of device first) (state_of device end) → IsSound (state_of device end) → RunsTo device first end
-runs_to device first end runs sound = record { leaves = goes_any runs; orders = (path_frames runs).orders; sound = sound }
+runs_to device first end runs sound = record { went = leave_to device first end (goes_any runs); orders = (path_frames runs).orders; sound = sound }
 
 module _ {S : Type 0} (device : S → Device) (first : S × Core) (posts : Vec Post) (bytes : Vec ℕ) (fits : IsFittingStage (serving first posts bytes)) (between : IsBetweenStage device (serving first posts bytes)) where
   abbrev old : Stage S
@@ -86,21 +96,25 @@ module _ {S : Type 0} (device : S → Device) (first : S × Core) (posts : Vec P
   on_first : IsOnBetween (device first.0) first.1
   on_first = between.session
 
-  module _ (end : S × Core) (to : RunsTo device first end) where
-    pub its : (last : ℕ) → IsRun OfRequests (state_in device old last) first.1 (state_of device end)
-    its last = record { alone = λ new alone. alone.acts tt; session = refl; facts = refl; volumes = fits.kind; between = between; leaves = to.leaves; sound = to.sound }
+  -- a session on which no copy moves is heard of
+  pub unstuck : (end : S × Core) → LeavesSession (state_of device first) (state_of device end) → end.1.power ≡ power.Stuck → ⊥
+  unstuck end leaves = stays_unstuck first.1 end.1 (path_shape leaves).power (λ stuck. let e : power.On ≡ power.Stuck = sym on_first.power ∙ stuck in cc e)
 
-    pub unstuck : end.1.power ≡ power.Stuck → ⊥
-    unstuck = stays_unstuck first.1 end.1 (path_shape to.leaves).power (λ stuck. let e : power.On ≡ power.Stuck = sym on_first.power ∙ stuck in cc e)
+  module _ (end : S × Core) (to : RunsTo device first end) where
+    went : MovesOn (state_of device first) (state_of device end)
+    went = to.went on_first.sound
+
+    pub its : (last : ℕ) → IsRun OfRequests (state_in device old last) first.1 (state_of device end)
+    its last = record { alone = λ new alone. alone.acts tt; session = refl; facts = refl; volumes = fits.kind; between = between; went = went; sound = to.sound }
 
     same_rooms : without_facts end.1.history ≡ without_facts first.1.history
-    same_rooms = (path_shape to.leaves).log
+    same_rooms = went.keeps.log
 
     room_is : end.1.history.room ≡ first.1.history.room
     room_is = ap (λ (log : Log). log.room) same_rooms
 
     volumes_stay : end.1.descriptor.lvs ≢ []
-    volumes_stay none = fits.kind (sym (ap (λ (d : Descriptor). d.lvs) (path_shape to.leaves).descriptor) ∙ none)
+    volumes_stay none = fits.kind (went.keeps.volumes none)
 
     module _ (Does : Log → ScriptState → ScriptState → Reply → Type 0) (posts1 : Vec Post) (bytes1 : Vec ℕ) (rooms : HaveRooms first.1.history.room posts1 bytes1) (stage : Stage S) (answer : Reply)
         (few : most_refusals answer + length posts1.items ≤ length posts.items + 1)
@@ -157,15 +171,16 @@ module _ {S : Type 0} (device : S → Device) (first : S × Core) (posts : Vec P
 
           pub over_ends : EndsUnasked device Does ⊥ OfRequests old stage answer
           over_ends = ends_so (λ last.
-              over_goes OfRequests (state_in device old last) first.1 (state_of device end) (its last) answer (state_in device stage last) ended.shelf facts_are ended.session refl unstuck (λ heard. over) posted_then (λ not_asking. absurd (not_asking tt)) few_then)
+              over_goes OfRequests (state_in device old last) first.1 (state_of device end) (its last) answer (state_in device stage last) ended.shelf facts_are ended.session refl
+              (λ stuck. let e : is_over power.Stuck ≡ true = sym (ap is_over stuck) ∙ over in cc e) (λ heard. over) posted_then (λ not_asking. absurd (not_asking tt)) few_then)
 
         -- or since nothing was heard of it
-        module _ (on : end.1.power ≡ power.On) (stuck : answer ≡ reply.Refused refusal.Stuck) where
+        module _ (undark : is_dark end.1.power ≡ false) (stuck : answer ≡ reply.Refused refusal.Stuck) where
           lit : HasPower (device end.0)
-          lit = to.sound.lit (ap is_dark on)
+          lit = to.sound.lit undark
 
           closed : device (shelf_in stage) ≡ record (device end.0) { freed = [] }
-          closed = subst (λ (p : Power). IsClosed p (device end.0) (device (shelf_in stage))) on ended.shelf
+          closed = undark_closed end.1.power (device end.0) (device (shelf_in stage)) undark ended.shelf
 
           same_device : device (shelf_in stage) ≡ device end.0
           same_device = closed ∙ ap (λ (freed : List Buffer). record (device end.0) { freed = freed }) (sym lit.freed)
@@ -180,8 +195,8 @@ module _ {S : Type 0} (device : S → Device) (first : S × Core) (posts : Vec P
             behind = left_is_before (beginning_at (last + 1)) (device end.0) (before_end OfRequests (state_in device old last) first.1 (state_of device end) (its last) timely).leaves;
           })
 
-          pub stuck_ends : EndsUnasked device Does ⊥ OfRequests old stage answer
-          stuck_ends = ends_so (λ last. record {
+          pub unheard_ends : EndsUnasked device Does ⊥ OfRequests old stage answer
+          unheard_ends = ends_so (λ last. record {
             keeps = λ timely alone began span stands. (
               subst (Keeps first.1.history.run began) (sym same_moment) (spanned OfRequests (state_in device old last) first.1 (state_of device end) (its last) (state_in device stage last) alone began stands span),
               λ heard. absurd (heard stuck),
@@ -192,18 +207,21 @@ module _ {S : Type 0} (device : S → Device) (first : S × Core) (posts : Vec P
             rests = λ not_asking. absurd (not_asking tt);
             begins = λ timely facts kept. tt;
             power = ap (λ (d : Device). d.power) same_device ∙ lit.power;
-            waits = let w = (path_shape to.leaves).counts.waits in let same = ap (λ (d : Device). d.counts.waits) same_device in omega (arith, w, same);
+            waits = let w = went.keeps.counts.waits in let same = ap (λ (d : Device). d.counts.waits) same_device in omega (arith, w, same);
             clock = omega arith;
             few = few_then;
           })
 
+        pub stuck_ends : end.1.power ≡ power.On → answer ≡ reply.Refused refusal.Stuck → EndsUnasked device Does ⊥ OfRequests old stage answer
+        stuck_ends on = unheard_ends (ap is_dark on)
+
       -- whichever it is
-      module _ (posted : ArePosted end.1.history.facts (Some end.1) posts1.items) (rooms_then : HaveRooms first.1.history.room stage.posts stage.bytes) (shut : end.1.power ≡ power.On → end.1.copy ≡ None) where
+      module _ (posted : ArePosted end.1.history.facts (Some end.1) posts1.items) (rooms_then : HaveRooms first.1.history.room stage.posts stage.bytes) (shut : end.1.power ≡ power.On → end.1.copy ≡ None) (heard : end.1.power ≡ power.Stuck → ⊥) where
         by_power : (p : Power) → end.1.power ≡ p → IsCarriedOn device end posts1 bytes1 p stage → EndsUnasked device Does ⊥ OfRequests old stage answer
         by_power power.On is carried = goes_on is (shut is) posted carried
         by_power power.Off is carried = over_ends carried rooms_then (ap is_over is) posted
         by_power power.Dark is carried = over_ends carried rooms_then (ap is_over is) posted
-        by_power power.Stuck is carried = absurd (unstuck is)
+        by_power power.Stuck is carried = absurd (heard is)
 
         pub carried_ends : IsCarriedOn device end posts1 bytes1 end.1.power stage → EndsUnasked device Does ⊥ OfRequests old stage answer
         carried_ends carried = by_power end.1.power refl carried

@@ -24,10 +24,10 @@ use Rattle.lvm_group_lines.specs.Stages.{HaveRooms, IsBetweenStage, IsCarriedOn,
 use Rattle.lvm_group_lines.specs.State.{ArePosted}
 use Rattle.lvm_group_lines.specs.declared.reply.Reply.TheVariants as reply
 use Rattle.lvm_group_lines.proofs.StateLemmas.{posts_need}
-use Rattle.lvm_group_lines.proofs.passed.Tie.{path_frames}
+use Rattle.lvm_group_lines.proofs.passed.Tie.{goes_any, path_frames}
 use Rattle.lvm_range_lines.specs.Leaving.{KeepsPosts, serving}
 use Rattle.lvm_range_lines.specs.Requests.{AsksByName, PostDoes, Posted, There, post_of}
-use Rattle.lvm_range_lines.proofs.LeavingLemmas.Ending.{carried_ends, runs_to}
+use Rattle.lvm_range_lines.proofs.LeavingLemmas.Ending.{carried_ends, runs_to, unstuck}
 use Rattle.lvm_range_lines.proofs.LookingLemmas.{IsTaken, taken_so}
 use Rattle.lvm_range_lines.proofs.LeavingLemmas.Posting.{asked_behind, posted_behind}
 
@@ -95,4 +95,4 @@ module _ {S : Type 0} (device : S → Device) (first : S × Core) (posts : Vec P
           runs = subst (λ (s : S). RunsOn (state_of device first) (state (device s) mid.1)) shelf runs;
           goes = goes last;
           says = is;
-        }))) posted (rooms_then rooms) (λ power_is. (path_frames runs).copy between.session.copy) carried
+        }))) posted (rooms_then rooms) (λ power_is. (path_frames runs).copy between.session.copy) (unstuck device first posts bytes fits between mid (goes_any runs)) carried

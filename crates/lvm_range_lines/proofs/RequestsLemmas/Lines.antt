@@ -14,7 +14,7 @@ use Rattle.lvm_session.specs.Causes.{is_over}
 use Rattle.lvm_session.specs.Sound.{IsSound}
 use Rattle.lvm_session.specs.State.{Core, State, state, votes_there, state_of}
 use Rattle.lvm_group_lines.specs.passed.Tie.{RunsOn}
-use Rattle.lvm_group_lines.proofs.passed.Tie.{path_frames, runs_both}
+use Rattle.lvm_group_lines.proofs.passed.Tie.{goes_any, path_frames, runs_both}
 use Rattle.lvm_posts.specs.declared.asked.Asked.{Asked}
 use Rattle.lvm_posts.specs.declared.fault.RangeFault.{RangeFault}
 use Rattle.lvm_posts.specs.declared.fault.RangeFault.TheVariants as fault
@@ -141,13 +141,13 @@ module _ {S : Type 0} (device : S → Device) (first : S × Core) (posts : Vec P
       well finishes waited carried says one =
           carried_ends device first posts bytes fits between end to Does posts bytes1 rooms stage answer (few one)
           (λ last. There first.1 taken.lv refl taken.named (EndsWell (state_of device end) asked (finished left (Ok tt) finishes waited stage last (carried_leaves device end posts bytes1 stage last posted carried) taken.lv taken.gives) says))
-          posted rooms_then shut carried
+          posted rooms_then shut (unstuck device first posts bytes fits between end (goes_any all)) carried
 
       fails : (why : RangeFault) → FinishGives asked left (state_of device mid) (state_of device end) (Err why) → Waited left (state_of device mid) (state_of device end)
           → (b : Bool) → is_stuck why ≡ b → ComesTo device b (holder.Serving end) posts bytes1 stage → answer ≡ reply.Refused (range_refusal why) → EndsUnasked device Does ⊥ OfRequests (serving first posts bytes) stage answer
       fails why finishes waited true stuck ended is =
           let same = only_stuck why stuck in
-          let on = unfinished_on asked (state_of device end) sound (unstuck device first posts bytes fits between end to) (stuck_unfinished asked left (state_of device mid) (state_of device end) (subst (λ (w : RangeFault). FinishGives asked left (state_of device mid) (state_of device end) (Err w)) same finishes)) in
+          let on = unfinished_on asked (state_of device end) sound (unstuck device first posts bytes fits between end (goes_any all)) (stuck_unfinished asked left (state_of device mid) (state_of device end) (subst (λ (w : RangeFault). FinishGives asked left (state_of device mid) (state_of device end) (Err w)) same finishes)) in
           stuck_ends device first posts bytes fits between end to Does posts bytes1 rooms stage answer (few (subst (λ (a : Reply). most_refusals a ≤ 1) (sym is) (omega arith)))
           (λ last. There first.1 taken.lv refl taken.named (Fails (state_of device end) asked why (finished left (Err why) finishes waited stage last
           (subst (λ (b : Bool). FailsIf b (state_of device end) posts.items last (state_in device stage last)) (sym stuck) (ended_is_over device end posts.items stage last posted ended)) taken.lv taken.gives) is))
@@ -156,7 +156,7 @@ module _ {S : Type 0} (device : S → Device) (first : S × Core) (posts : Vec P
           carried_ends device first posts bytes fits between end to Does posts bytes1 rooms stage answer (few (subst (λ (a : Reply). most_refusals a ≤ 1) (sym is) (omega arith)))
           (λ last. There first.1 taken.lv refl taken.named (Fails (state_of device end) asked why (finished left (Err why) finishes waited stage last
           (subst (λ (b : Bool). FailsIf b (state_of device end) posts.items last (state_in device stage last)) (sym heard) (carried_leaves device end posts bytes1 stage last posted carried)) taken.lv taken.gives) is))
-          posted rooms_then shut carried
+          posted rooms_then shut (unstuck device first posts bytes fits between end (goes_any all)) carried
 
     -- whatever it answered
     pub finished_ends : (done : Result Reply RangeFault) → (left : ℕ) × FinishGives asked left (state_of device mid) (state_of device end) (ending_of done) × Waited left (state_of device mid) (state_of device end)

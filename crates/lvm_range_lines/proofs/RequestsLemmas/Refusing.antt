@@ -21,11 +21,11 @@ use Rattle.lvm_group_lines.specs.Stages.{HaveRooms, IsBetweenStage, IsCarriedOn,
 use Rattle.lvm_group_lines.specs.State.{ScriptState}
 use Rattle.lvm_group_lines.specs.declared.reply.Refusal.TheVariants as refusal
 use Rattle.lvm_group_lines.specs.declared.reply.Reply.TheVariants as reply
-use Rattle.lvm_group_lines.proofs.passed.Tie.{path_frames}
+use Rattle.lvm_group_lines.proofs.passed.Tie.{goes_any, path_frames}
 use Rattle.lvm_range_lines.specs.Leaving.{KeepsPosts, serving}
 use Rattle.lvm_range_lines.specs.Refusals.{ask_refusal}
 use Rattle.lvm_range_lines.specs.Requests.{AsksByName, HasNone, IsNotAsked, NotThere, OnVolume, Refuses, Takes, There}
-use Rattle.lvm_range_lines.proofs.LeavingLemmas.Ending.{RunsTo, carried_ends, runs_to}
+use Rattle.lvm_range_lines.proofs.LeavingLemmas.Ending.{RunsTo, carried_ends, runs_to, unstuck}
 
 module _ {S : Type 0} (device : S → Device) (first : S × Core) (posts : Vec Post) (bytes : Vec ℕ) (fits : IsFittingStage (serving first posts bytes)) (between : IsBetweenStage device (serving first posts bytes))
     (name : List ℕ) (write : Option ℕ) (at count : ℕ) (Happens : ScriptState → ScriptState → Reply → Core → ℕ → Type 0)
@@ -67,4 +67,4 @@ module _ {S : Type 0} (device : S → Device) (first : S × Core) (posts : Vec P
   pub refusing_ends : EndsUnasked device Does ⊥ OfRequests (serving first posts bytes) stage answer
   refusing_ends =
       let one : most_refusals answer ≤ 1 = subst (λ (a : Reply). most_refusals a ≤ 1) (sym is) (omega arith) in
-      carried_ends device first posts bytes fits between mid to Does posts bytes1 rooms stage answer (omega (arith, one)) (λ last. does.1 last (still does.0 last)) (kept posts.items between.posted) rooms_then (λ on. (path_frames runs).copy between.session.copy) carried
+      carried_ends device first posts bytes fits between mid to Does posts bytes1 rooms stage answer (omega (arith, one)) (λ last. does.1 last (still does.0 last)) (kept posts.items between.posted) rooms_then (λ on. (path_frames runs).copy between.session.copy) (unstuck device first posts bytes fits between mid (goes_any runs)) carried

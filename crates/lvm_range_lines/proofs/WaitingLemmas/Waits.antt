@@ -14,7 +14,7 @@ use Rattle.lvm_session.specs.State.{Core, state_of}
 use Rattle.lvm_group_lines.specs.passed.Driver.{IsAny}
 use Rattle.lvm_group_lines.proofs.passed.Ranges.{answered_for}
 use Rattle.lvm_group_lines.specs.passed.Tie.{RunsOn}
-use Rattle.lvm_group_lines.proofs.passed.Tie.{path_frames, path_shape, runs_both}
+use Rattle.lvm_group_lines.proofs.passed.Tie.{goes_any, path_frames, runs_both}
 use Rattle.lvm_posts.specs.declared.posts.Post.{Post}
 use Rattle.lvm_group_lines.specs.declared.reply.Refusal.TheVariants as refusal
 use Rattle.lvm_group_lines.specs.declared.reply.Reply.{Reply}
@@ -68,7 +68,7 @@ module _ {S : Type 0} (device : S → Device) (first : S × Core) (posts : Vec P
       to_end = runs_to device first goes.end all goes.sound
 
       room_is : goes.end.1.history.room ≡ first.1.history.room
-      room_is = ap (λ (log : Log). log.room) (path_shape to_end.leaves).log
+      room_is = ap (λ (log : Log). log.room) (path_frames all).keeps.log
 
       rooms1 : HaveRooms first.1.history.room goes.none goes.bytes
       rooms1 = subst (λ n. HaveRooms n goes.none goes.bytes) room_is (subst IsFittingStage goes.is fits_then).rooms
@@ -83,7 +83,7 @@ module _ {S : Type 0} (device : S → Device) (first : S × Core) (posts : Vec P
       on_ends : EndsUnasked device Does ⊥ OfRequests old stage answer
       on_ends = carried_ends device first posts bytes fits between goes.end to_end Does goes.none goes.bytes rooms1 stage answer few_left
           (λ last. does_so stage answer last (Goes on landed (record { answers = goes.endings; end = state_of device goes.end; takes = goes.takes; runs = goes.runs; sound = goes.sound; goes = goes_as last; tells = goes.tells })))
-          (none_posted goes.end.1.history.facts (Some goes.end.1) goes.none.items goes.empty) (subst (λ (s : Stage S). HaveRooms first.1.history.room s.posts s.bytes) (sym goes.is) rooms1) (λ power_is. (path_frames all).copy between.session.copy)
+          (none_posted goes.end.1.history.facts (Some goes.end.1) goes.none.items goes.empty) (subst (λ (s : Stage S). HaveRooms first.1.history.room s.posts s.bytes) (sym goes.is) rooms1) (λ power_is. (path_frames all).copy between.session.copy) (unstuck device first posts bytes fits between goes.end (goes_any all))
           (subst (λ (p : Power). IsCarriedOn device goes.end goes.none goes.bytes p stage) (sym goes.on) goes.is)
 
     -- ---- it is over
@@ -98,7 +98,7 @@ module _ {S : Type 0} (device : S → Device) (first : S × Core) (posts : Vec P
       goes_closed : (last : ℕ) → LineGoesOn first.1.history.run OfRequests reply.Ok (state_in device old last) (state_in device behind.closed last)
       goes_closed last =
           over_goes OfRequests (state_in device old last) first.1 (state_of device mid) (its device first posts bytes fits between mid to_mid last) reply.Ok (state_in device behind.closed last) behind.ended.shelf (ap (λ (log : Log). log.facts) log_is)
-          behind.ended.session refl (unstuck device first posts bytes fits between mid to_mid) (λ heard. over) (posted_ended device mid posts behind.closed behind.ended sound over posted) (λ not_asking. absurd (not_asking tt)) (omega (arith, long))
+          behind.ended.session refl (unstuck device first posts bytes fits between mid (goes_any runs)) (λ heard. over) (posted_ended device mid posts behind.closed behind.ended sound over posted) (λ not_asking. absurd (not_asking tt)) (omega (arith, long))
 
       run_is : first.1.history.run ≡ (history_in behind.closed).run
       run_is = sym (ap (λ (log : Log). log.run) log_is ∙ ap (λ (log : Log). log.run) (path_frames runs).keeps.log)
@@ -123,7 +123,7 @@ module _ {S : Type 0} (device : S → Device) (first : S × Core) (posts : Vec P
     by_power power.On is goes = on_ends is goes
     by_power power.Off is behind = over_ends_so (ap is_over is) behind
     by_power power.Dark is behind = over_ends_so (ap is_over is) behind
-    by_power power.Stuck is behind = absurd (unstuck device first posts bytes fits between mid to_mid is)
+    by_power power.Stuck is behind = absurd (unstuck device first posts bytes fits between mid (goes_any runs) is)
 
     pub landed_ends : LandedEnds device mid posts bytes mid.1.power stage answer → EndsUnasked device Does ⊥ OfRequests old stage answer
     landed_ends ends = by_power mid.1.power refl ends
@@ -137,4 +137,4 @@ module _ {S : Type 0} (device : S → Device) (first : S × Core) (posts : Vec P
         let one : most_refusals answer ≤ 1 = subst (λ (a : Reply). most_refusals a ≤ 1) (sym says) (omega arith) in
         stuck_ends device first posts bytes fits between mid to_mid Does posts bytes fits.rooms stage answer (omega (arith, one))
         (λ last. does_so stage answer last (InVain (record { awaited = awaited; none = none; ends = ended_is_over device mid posts.items stage last posted ended; says = says })))
-        ended rooms_then (unfinished_on awaited.post.asked (state_of device mid) sound (unstuck device first posts bytes fits between mid to_mid) awaited.unfinished) says
+        ended rooms_then (unfinished_on awaited.post.asked (state_of device mid) sound (unstuck device first posts bytes fits between mid (goes_any runs)) awaited.unfinished) says

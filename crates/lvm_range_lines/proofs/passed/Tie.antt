@@ -1,2 +1,2 @@
 -- Passed on from `lvm_going` and `lvm_going_laws`.
-pub use Rattle.lvm_group_lines.proofs.passed.Tie.{goes_any, going_leaves, is_stamped, path_frames, path_shape, runs_both, runs_none, stays_stamped, stays_unstuck}
+pub use Rattle.lvm_group_lines.proofs.passed.Tie.{goes_any, going_leaves, going_moves_on, is_stamped, leaves_move_on, moves_find_theirs, path_frames, path_shape, runs_both, runs_none, stays_stamped, stays_unstuck}

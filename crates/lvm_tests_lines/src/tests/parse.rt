@@ -287,6 +287,54 @@ fn a_change_takes_one_of_its_options(rt: HostRuntime) {
     }
 }
 
+#[test]
+fn moves_are_spelled(rt: HostRuntime) {
+    spells(
+        &rt,
+        b"migratepv hdisk0 hdisk127",
+        Command::Migratepv {
+            volume: None,
+            from: 0,
+            to: 127,
+        },
+    );
+    let volume = name(&rt, b"lv00");
+    spells(
+        &rt,
+        b" migratepv  -l  lv00  hdisk2  hdisk1 ",
+        Command::Migratepv {
+            volume: Some(volume),
+            from: 2,
+            to: 1,
+        },
+    );
+}
+
+// Lines that would move copies, and the column at which each isn't in the language.
+static UNMOVED: [(&[u8], u32); 14] = [
+    (b"migratepv", 10),
+    (b"migratepv hdisk0", 17),
+    (b"migratepv hdisk0 hdisk0", 18),
+    (b"migratepv hdisk0 hdisk0 hdisk1", 18),
+    (b"migratepv hdisk0 hdisk128", 18),
+    (b"migratepv hdisk0 hdisk1 hdisk2", 25),
+    (b"migratepv hdisk0 lv00", 18),
+    (b"migratepv lv00 hdisk0 hdisk1", 11),
+    (b"migratepv -l", 13),
+    (b"migratepv -l hdisk0 hdisk1", 14),
+    (b"migratepv -l lv00 hdisk0", 25),
+    (b"migratepv -l lv00 hdisk1 hdisk1", 26),
+    (b"migratepv -l lv00 -l lv00 hdisk0 hdisk1", 19),
+    (b"migratepv hdisk0 hdisk1 -l lv00", 25),
+];
+
+#[test]
+fn a_move_takes_two_disks(rt: HostRuntime) {
+    for (line, column) in &UNMOVED {
+        refused(&rt, line, *column);
+    }
+}
+
 // The volume lv00 in datavg, in mode off.
 fn volume(rt: &impl Abort, copies: u8, policy: Policy, lps: u32) -> Command {
     volume_in(rt, Mode::Off, copies, policy, lps)

@@ -4,7 +4,8 @@ ghost use Rattle.lvm_show.specs.Refusals.{is_refusal};
 use crate::tests::fixtures::{check, check_at};
 use lvm_num::{Text, fill};
 use lvm_show::{
-    Carried, Refusal, push_refusal, show_block, show_refusal, show_stepped, show_synced,
+    Carried, Refusal, push_refusal, show_block, show_migrated, show_refusal, show_stepped,
+    show_synced,
 };
 use std::process::Abort;
 
@@ -115,6 +116,12 @@ fn turns_are_shown(rt: HostRuntime) {
 fn copies_are_shown(rt: HostRuntime) {
     let shown = show_synced(rt.alloc(), 4_294_967_295).expect(&rt, "memory");
     check(&rt, shown.as_str() == "synced 4294967295\n", "copies");
+}
+
+#[test]
+fn moves_are_shown(rt: HostRuntime) {
+    let shown = show_migrated(rt.alloc(), 130_048).expect(&rt, "memory");
+    check(&rt, shown.as_str() == "migrated 130048\n", "moves");
 }
 
 fn block(rt: &(impl Abort + AllocGlobal), at: u64, block: &[u8; 512]) -> Text {

@@ -27,6 +27,7 @@ has_waited (Ok (Some (command.Post name at count word))) old new cause = cause
 has_waited (Ok (Some command.Wait)) old new cause = cause
 has_waited (Ok (Some (command.SyncVolume name))) old new cause = cause
 has_waited (Ok (Some (command.SyncGroup name))) old new cause = cause
+has_waited (Ok (Some (command.Migratepv volume from to))) old new cause = cause
 has_waited (Ok (Some (command.Step turns))) old new cause = cause
 has_waited read old new cause = cause
 

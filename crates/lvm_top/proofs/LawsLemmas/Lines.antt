@@ -32,7 +32,7 @@ use Rattle.lvm_session.specs.State.{Core, State, state}
 use Rattle.lvm_line.specs.passed.Tie.{LeavesDescriptors, RunsOn}
 use Rattle.lvm_line.proofs.passed.Tie.{goes_any, going_leaves}
 use Rattle.lvm_top.specs.Laws.{LineFindsNoMore}
-use Rattle.lvm_top.specs.Standing.{MayHaveCommitted, StoodBefore}
+use Rattle.lvm_top.specs.Standing.{MayHaveCommitted, MayMoveCopies, StoodBefore}
 use Rattle.lvm_top.proofs.Devices.{IsShelf, NothingNew, then_nothing, same_nothing, fewer_nothing}
 use Rattle.lvm_top.proofs.StandingLemmas.Groups.{mkvg_finds, varyon_nothing}
 use Rattle.lvm_top.proofs.LeavesLemmas.Quiet.{closed_nothing, quiet_nothing, range_stays_nothing, runs_nothing, session_nothing}
@@ -42,6 +42,7 @@ use Rattle.lvm_top.proofs.StandingLemmas.Closing.{varyoff_nothing}
 use Rattle.lvm_top.proofs.StandingLemmas.Copying.{mklvcopy_finds, rmlvcopy_finds}
 use Rattle.lvm_top.proofs.StandingLemmas.Splitting.{splitlvcopy_finds}
 use Rattle.lvm_top.proofs.StandingLemmas.Changing.{chvg_big_finds, chvg_quorum_finds}
+use Rattle.lvm_top.proofs.StandingLemmas.Moving.{migratepv_finds}
 use Rattle.lvm_raw.specs.Raw.{log_with as log_of}
 
 module _ (log : Log) (old new : ScriptState) (answer : Reply) where
@@ -175,35 +176,36 @@ module _ (old new : ScriptState) (answer : Reply) (between : IsBetween old.momen
 
 module _ (log : Log) (room : Room) (line : List ℕ) (answer : Reply) (old new : ScriptState) (shelf : IsShelf old.moment.device) (between : IsBetween old.moment old.session old.posts) (heard : IsStuck answer → ⊥) (timely : IsTimely log.run old)
     (named : IfSome old.session (λ core. core.history.run ≡ log.run)) where
-  pub by_reading : (read : Result (Option Command) Misfit) → line_of line ≡ read → StoodBefore log.run (role_of read) old new → LineDoes log room read old new answer
+  pub by_reading : (read : Result (Option Command) Misfit) → line_of line ≡ read → StoodBefore log.run (role_of read) old new → MayMoveCopies log.run read old new → LineDoes log room read old new answer
       → (id : ℕ) (k : Descriptor) → MayBeFound new.moment.device id k → MayBeFound old.moment.device id k ⊎ MayHaveCommitted read answer old new id k
-  by_reading (Err misfit) is stood does id k it = inl (same_state log old new answer does.1 id k it)
-  by_reading (Ok None) is stood does id k it = inl (same_state log old new answer does.1 id k it)
-  by_reading (Ok (Some (command.Mkvg force name mib disks))) is stood does id k it = mkvg_finds log old new answer shelf heard timely line force name mib disks is room does id k it
-  by_reading (Ok (Some (command.Varyon name))) is stood does id k it = inl (varyon_nothing log old new answer shelf heard timely name room does id k it)
-  by_reading (Ok (Some (command.Varyoff name))) is stood does id k it = inl (varyoff_nothing log.run old new between named stood answer name does id k it)
-  by_reading (Ok (Some (command.Lsvg volumes name))) is stood does id k it = inl (same_state log old new answer does.1 id k it)
-  by_reading (Ok (Some (command.ChvgQuorum on name))) is stood does id k it = chvg_quorum_finds log.run old new between named stood answer on name does id k it
-  by_reading (Ok (Some (command.ChvgBig name))) is stood does id k it = chvg_big_finds log.run old new between named stood answer name does id k it
-  by_reading (Ok (Some (command.Mklv name copies mode policy group lps))) is stood does id k it = mklv_finds log.run old new between named stood answer name copies mode policy group lps does id k it
-  by_reading (Ok (Some (command.Rmlv name))) is stood does id k it = rmlv_finds log.run old new between named stood answer name does id k it
-  by_reading (Ok (Some (command.Mklvcopy name copies))) is stood does id k it = mklvcopy_finds log.run old new between named stood answer name copies does id k it
-  by_reading (Ok (Some (command.Rmlvcopy name copies))) is stood does id k it = rmlvcopy_finds log.run old new between named stood answer name copies does id k it
-  by_reading (Ok (Some (command.Splitlvcopy made name copies))) is stood does id k it = splitlvcopy_finds log.run old new between named stood answer made name copies does id k it
-  by_reading (Ok (Some (command.Lslv name))) is stood does id k it = inl (same_state log old new answer does.1 id k it)
-  by_reading (Ok (Some (command.Lspv disk))) is stood does id k it = inl (same_state log old new answer does.1 id k it)
-  by_reading (Ok (Some (command.Rd name at count))) is stood does id k it = inl (volume_nothing old new answer between name _ (λ core lv. finishes_nothing old new answer between None _ at count core lv) does id k it)
-  by_reading (Ok (Some (command.Wr name at count word))) is stood does id k it = inl (volume_nothing old new answer between name _ (λ core lv. finishes_nothing old new answer between (Some word) _ at count core lv) does id k it)
-  by_reading (Ok (Some (command.Post name at count word))) is stood does id k it = inl (volume_nothing old new answer between name _ (λ core lv. posts_nothing old new answer between at count word core lv) does id k it)
-  by_reading (Ok (Some command.Wait)) is stood does id k it = inl (wait_nothing old new answer between does id k it)
-  by_reading (Ok (Some (command.SyncVolume name))) is stood does id k it = inl (sync_volume_nothing old new answer between name does id k it)
-  by_reading (Ok (Some (command.SyncGroup name))) is stood does id k it = inl (sync_group_nothing old new answer between name does id k it)
-  by_reading (Ok (Some (command.Step turns))) is stood does id k it = inl (step_nothing old new answer between turns does id k it)
-  by_reading (Ok (Some (command.RawRd disk at count))) is stood does id k it = inl (rd_nothing log old new answer disk at count does id k it)
-  by_reading (Ok (Some (command.RawWr disk at count word))) is stood does id k it = inl (wr_nothing log old new answer disk at count word does id k it)
-  by_reading (Ok (Some (command.Fail disk))) is stood does id k it = inl (arrange_nothing log old new answer disk (arrange.Fail disk) does id k it)
-  by_reading (Ok (Some (command.Heal disk))) is stood does id k it = inl (arrange_nothing log old new answer disk (arrange.Heal disk) does id k it)
-  by_reading (Ok (Some (command.Cut word))) is stood does id k it = inl (cut_nothing log old new answer word does id k it)
+  by_reading (Err misfit) is stood may does id k it = inl (same_state log old new answer does.1 id k it)
+  by_reading (Ok None) is stood may does id k it = inl (same_state log old new answer does.1 id k it)
+  by_reading (Ok (Some (command.Mkvg force name mib disks))) is stood may does id k it = mkvg_finds log old new answer shelf heard timely line force name mib disks is room does id k it
+  by_reading (Ok (Some (command.Varyon name))) is stood may does id k it = inl (varyon_nothing log old new answer shelf heard timely name room does id k it)
+  by_reading (Ok (Some (command.Varyoff name))) is stood may does id k it = inl (varyoff_nothing log.run old new between named stood answer name does id k it)
+  by_reading (Ok (Some (command.Lsvg volumes name))) is stood may does id k it = inl (same_state log old new answer does.1 id k it)
+  by_reading (Ok (Some (command.ChvgQuorum on name))) is stood may does id k it = chvg_quorum_finds log.run old new between named stood answer on name does id k it
+  by_reading (Ok (Some (command.ChvgBig name))) is stood may does id k it = chvg_big_finds log.run old new between named stood answer name does id k it
+  by_reading (Ok (Some (command.Mklv name copies mode policy group lps))) is stood may does id k it = mklv_finds log.run old new between named stood answer name copies mode policy group lps does id k it
+  by_reading (Ok (Some (command.Rmlv name))) is stood may does id k it = rmlv_finds log.run old new between named stood answer name does id k it
+  by_reading (Ok (Some (command.Mklvcopy name copies))) is stood may does id k it = mklvcopy_finds log.run old new between named stood answer name copies does id k it
+  by_reading (Ok (Some (command.Rmlvcopy name copies))) is stood may does id k it = rmlvcopy_finds log.run old new between named stood answer name copies does id k it
+  by_reading (Ok (Some (command.Splitlvcopy made name copies))) is stood may does id k it = splitlvcopy_finds log.run old new between named stood answer made name copies does id k it
+  by_reading (Ok (Some (command.Lslv name))) is stood may does id k it = inl (same_state log old new answer does.1 id k it)
+  by_reading (Ok (Some (command.Lspv disk))) is stood may does id k it = inl (same_state log old new answer does.1 id k it)
+  by_reading (Ok (Some (command.Rd name at count))) is stood may does id k it = inl (volume_nothing old new answer between name _ (λ core lv. finishes_nothing old new answer between None _ at count core lv) does id k it)
+  by_reading (Ok (Some (command.Wr name at count word))) is stood may does id k it = inl (volume_nothing old new answer between name _ (λ core lv. finishes_nothing old new answer between (Some word) _ at count core lv) does id k it)
+  by_reading (Ok (Some (command.Post name at count word))) is stood may does id k it = inl (volume_nothing old new answer between name _ (λ core lv. posts_nothing old new answer between at count word core lv) does id k it)
+  by_reading (Ok (Some command.Wait)) is stood may does id k it = inl (wait_nothing old new answer between does id k it)
+  by_reading (Ok (Some (command.SyncVolume name))) is stood may does id k it = inl (sync_volume_nothing old new answer between name does id k it)
+  by_reading (Ok (Some (command.SyncGroup name))) is stood may does id k it = inl (sync_group_nothing old new answer between name does id k it)
+  by_reading (Ok (Some (command.Migratepv volume from to))) is stood may does id k it = migratepv_finds log.run old new between named may answer volume from to does id k it
+  by_reading (Ok (Some (command.Step turns))) is stood may does id k it = inl (step_nothing old new answer between turns does id k it)
+  by_reading (Ok (Some (command.RawRd disk at count))) is stood may does id k it = inl (rd_nothing log old new answer disk at count does id k it)
+  by_reading (Ok (Some (command.RawWr disk at count word))) is stood may does id k it = inl (wr_nothing log old new answer disk at count word does id k it)
+  by_reading (Ok (Some (command.Fail disk))) is stood may does id k it = inl (arrange_nothing log old new answer disk (arrange.Fail disk) does id k it)
+  by_reading (Ok (Some (command.Heal disk))) is stood may does id k it = inl (arrange_nothing log old new answer disk (arrange.Heal disk) does id k it)
+  by_reading (Ok (Some (command.Cut word))) is stood may does id k it = inl (cut_nothing log old new answer word does id k it)
 
 pub line_finds_no_more : LineFindsNoMore
-line_finds_no_more log room line answer old new it few leaves heard timely stood = by_reading log room line answer old new (record { few = few; whole = it.whole }) it.between heard timely it.named (line_of line) refl stood it.does
+line_finds_no_more log room line answer old new it few leaves heard timely stood may = by_reading log room line answer old new (record { few = few; whole = it.whole }) it.between heard timely it.named (line_of line) refl stood may it.does

@@ -35,8 +35,8 @@ use Rattle.lvm_top.proofs.Devices.{NothingNew, then_nothing, same_nothing}
 use Rattle.lvm_top.proofs.LeavesLemmas.Quiet.{closed_nothing, quiet_nothing, runs_nothing}
 use Rattle.lvm_top.proofs.ScriptLemmas.Scripting.{script_went, begins_timely}
 use Rattle.lvm_top.specs.Laws.{MayRun, ScriptFindsWhatStands, VaryonFindsWhatStands, RunMayStart, RunFindsWhatStands}
-use Rattle.lvm_top.specs.Standing.{MayHaveCommitted, StoodBefore, StandsSince, is_acknowledged, StandsOf, StandsAfter, DescriptorMayStand, MayStandAtEnd}
-use Rattle.lvm_top.proofs.StandingLemmas.Acknowledged.{only_committed, leaves_on, stands_of}
+use Rattle.lvm_top.specs.Standing.{MayHaveCommitted, StoodBefore, StandsSince, is_acknowledged, StandsOf, StandsAfter, DescriptorMayStand, MayStandAtEnd, MayMoveCopies}
+use Rattle.lvm_top.proofs.StandingLemmas.Acknowledged.{leaves_on, stands_of}
 use Rattle.lvm_top.proofs.LawsLemmas.Lines.{line_finds_no_more}
 use Rattle.lvm_top.proofs.LeavesLemmas.Varying.{was_found}
 
@@ -62,6 +62,11 @@ module _ (log : Log) (room : Room) (past : List Fact) (first : ScriptState) (beg
   pub stood : {lines : List (List ℕ)} {replies : List Reply} {mid : ScriptState} (script : Script log room first lines replies mid) → StaysAlone script → (role : Role) (new : ScriptState) → IsAlone role mid new → StoodBefore log.run role mid new
   stood script alone role new now = StandsSince past first.moment (went_so script alone).1 begin.begins now
 
+  -- and before one on which copies move
+  pub may_move : {lines : List (List ℕ)} {replies : List Reply} {mid : ScriptState} (script : Script log room first lines replies mid) → StaysAlone script → (read : Result (Option Command) Misfit) (new : ScriptState) → IsAlone (role_of read) mid new → MayMoveCopies log.run read mid new
+  may_move script alone (Ok (Some (command.Migratepv volume from to))) new now = record { past = past; first = first.moment; stands = (went_so script alone).1; begins = begin.begins; alone = now }
+  may_move script alone read new now = tt
+
   -- what an acknowledged group command leaves
   acknowledged : {lines : List (List ℕ)} {replies : List Reply} {mid new : ScriptState} (line : List ℕ) (answer said : Reply) (heard : IsStuck answer → ⊥) (says : Says answer said) (before : Script log room first lines replies mid) (it : IsLine log room line answer mid new)
       → StaysAlone (NextLine line answer said heard says before it) → is_acknowledged (line_of line) answer ≡ true
@@ -69,11 +74,11 @@ module _ (log : Log) (room : Room) (past : List Fact) (first : ScriptState) (beg
       → IsSomeAnd new.session (λ core. StandsOf core (DescriptorMayStand before) id k)
   acknowledged {mid = mid} {new = new} line answer said heard says before it alone acked id k found which =
       let so_far = script_went log room first before in
-      let on = leaves_on log room mid new it.between it.named (it.goes.begins (so_far.timely begin.timely) (past ++ mid.moment.facts) (images_kept before alone.0)) (line_of line) answer acked (stood before alone.0 (role_of (line_of line)) new alone.1) it.does in
+      let on = leaves_on log room mid new it.between it.named (it.goes.begins (so_far.timely begin.timely) (past ++ mid.moment.facts) (images_kept before alone.0)) (line_of line) answer acked (stood before alone.0 (role_of (line_of line)) new alone.1) (may_move before alone.0 (line_of line) new alone.1) it.does in
       let kept = images_kept (NextLine line answer said heard says before it) alone in
       subst (λ (s : Option Core). IsSomeAnd s (λ core. StandsOf core (DescriptorMayStand before) id k)) (sym on.on)
       (stands_of on.core (DescriptorMayStand before) id k
-      (λ same. only_committed new.moment.device on.core (past ++ new.moment.facts) on.begun.settled on.begun.held on.begun.ready.flights kept k (subst (λ (i : ℕ). MayBeFound new.moment.device i k) same found))
+      (λ same. on.only (past ++ new.moment.facts) kept k (subst (λ (i : ℕ). MayBeFound new.moment.device i k) same found))
       (⊎_elim (λ stood. inl stood) (λ committed. inr (committed.own, on.own k committed.is)) which))
 
   -- what a line leaves of which something was heard
@@ -86,7 +91,7 @@ module _ (log : Log) (room : Room) (past : List Fact) (first : ScriptState) (beg
       by_answer (is_acknowledged (line_of line) answer) refl (⊎_elim
       (λ was. inl (stands_so id k was))
       (λ committed. inr committed)
-      (line_finds_no_more log room line answer mid new it few (went.leaves begin.leaves) heard (went.timely begin.timely) (stood before alone.0 (role_of (line_of line)) new alone.1) id k found))
+      (line_finds_no_more log room line answer mid new it few (went.leaves begin.leaves) heard (went.timely begin.timely) (stood before alone.0 (role_of (line_of line)) new alone.1) (may_move before alone.0 (line_of line) new alone.1) id k found))
     where
       by_answer : (t : Bool) → is_acknowledged (line_of line) answer ≡ t → DescriptorMayStand before id k ⊎ MayHaveCommitted (line_of line) answer mid new id k
           → StandsAfter t (line_of line) answer mid new (DescriptorMayStand before) id k

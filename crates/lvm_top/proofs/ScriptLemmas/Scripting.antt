@@ -101,6 +101,7 @@ said_few answer said (inr (late, is)) = subst (λ (r : Reply). refusals_of r ≤
     one : (r : Reply) → IsTrue (is_made_late r) → 1 ≤ most_refusals r
     one (reply.Stepped turns) late = omega arith
     one (reply.Synced made) late = omega arith
+    one (reply.Migrated moved) late = omega arith
     one (reply.Refused why) late = omega arith
     one _ late = absurd (cc (late))
 

@@ -1,6 +1,6 @@
 -- What is found after a group command that was acknowledged.
 use Rattle.std.proofs.Common.{◌≡◌, ◌⊎◌, inl, inr, ℕ, List, [], Bool, true, false, Option, Some, None, Result, Ok, Err, refl, sym, ap, subst, ◌∙◌}
-use Rattle.std.specs.Prelude.{◌==◌, IfNone, IfSome, IsSomeAnd}
+use Rattle.std.specs.Prelude.{◌==◌, IfNone, IfOk, IfSome, IsSomeAnd}
 use Rattle.std.proofs.lemmas.Bool.{eqb-true, eq-eqb}
 use Rattle.lvm_num.specs.declared.descriptor.Descriptor.{Descriptor}
 use Rattle.lvm_disk.specs.Device.{Media, Device, image_of, IsReady, MayLeave}
@@ -30,16 +30,19 @@ use Rattle.lvm_line.specs.passed.Group.{NewGroup, new_group}
 use Rattle.lvm_core.specs.declared.refused.Cause.{Cause}
 use Rattle.lvm_line.specs.passed.Quiesce.{MkvgOnceQuiet, RefusedAtOnce, StayedOut, WentQuiet}
 use Rattle.lvm_line.proofs.passed.Quiesce.{ends_only}
-use Rattle.lvm_line.specs.passed.GroupLines.{IsBetween, IsLeftByCall, Varies, NoVaryonWhileOn, NoMemoryForLine, NoMkvgWhileOn, Makes, asked_for, itself, outcome_of, patience_of_line, HasBegunHeld, IsStuck, ScriptState, log_with, Reply}
+use Rattle.lvm_line.specs.passed.GroupLines.{IsBetween, IsLeftByCall, Varies, NoVaryonWhileOn, NoMemoryForLine, NoMkvgWhileOn, Makes, asked_for, itself, outcome_of, patience_of_line, HasBegunHeld, IsStuck, OfRequests, ScriptState, log_with, Reply}
 use Rattle.lvm_line.specs.Lines.{CommandDoes, LineDoes, role_of}
 use Rattle.lvm_line.specs.passed.ReplyVariants as reply
 use Rattle.lvm_volume_plan.specs.declared.new_volume.NewVolume.{NewVolume}
 use Rattle.lvm_line.proofs.passed.Tie.{path_frames}
-use Rattle.lvm_top.specs.Standing.{IsToCommit, StoodBefore, is_group_command, is_acknowledged, StandsOf, IsCommitted, OfAnother, WasDrained}
+use Rattle.lvm_top.specs.Standing.{IsToCommit, MayMoveCopies, StandsForMoves, StoodBefore, is_group_command, is_acknowledged, StandsOf, IsCommitted, OfAnother, WasDrained}
 use Rattle.lvm_top.proofs.StandingLemmas.Volumes.{held_mid}
 use Rattle.lvm_top.proofs.StandingLemmas.Copying.{fewer_id, more_id}
 use Rattle.lvm_top.proofs.StandingLemmas.Splitting.{split_id}
 use Rattle.lvm_top.proofs.StandingLemmas.Changing.{big_id}
+use Rattle.lvm_top.proofs.StandingLemmas.Moving.{empty_only, end_id, only_end, own_moved, session_on}
+use Rattle.lvm_line.specs.passed.MoveLines.{MigratepvDoes, MoveFault, MovesCopies, NoGroupForMoves, NotAskedForMoves, NothingMoves, move_reply}
+use Rattle.lvm_session.specs.declared.open.Power.TheVariants as power
 use Rattle.lvm_volume_plan.specs.NewVolume.{without_volume}
 
 -- ---- a session at which nothing is under way
@@ -59,12 +62,27 @@ module _ (device : Device) (core : Core) (facts : List Fact) (settled : IsSettle
 
 -- ---- the session after the command
 
--- A group is on, settled, and held by its disks, on which nothing is out; and what the line was to commit is a descriptor of it.
+-- A group is on, of which its descriptor alone is found where the history is kept; and what the line was to commit is a descriptor of it.
 pub record LeavesOn (read : Result (Option Command) Misfit) (old new : ScriptState) : Type 0 where
   pub core : Core
   pub on : new.session ≡ Some core
-  pub begun : HasBegunHeld new.moment.device core
+  pub only : (facts : List Fact) → ImagesKept new.moment.device facts → (k : Descriptor) → MayBeFound new.moment.device core.descriptor.id k → k ≡ core.descriptor
   pub own : (k : Descriptor) → IsToCommit read old new k → k.id ≡ core.descriptor.id
+
+-- so it is where it is settled, and held by its disks, on which nothing is out
+record LeavesSettled (read : Result (Option Command) Misfit) (old new : ScriptState) : Type 0 where
+  core : Core
+  on : new.session ≡ Some core
+  begun : HasBegunHeld new.moment.device core
+  own : (k : Descriptor) → IsToCommit read old new k → k.id ≡ core.descriptor.id
+
+settled_leaves : (read : Result (Option Command) Misfit) (old new : ScriptState) → LeavesSettled read old new → LeavesOn read old new
+settled_leaves read old new left = record {
+  core = left.core;
+  on = left.on;
+  only = λ facts kept k it. only_committed new.moment.device left.core facts left.begun.settled left.begun.held left.begun.ready.flights kept k it;
+  own = left.own;
+}
 
 -- a line by which a group comes on
 pub begun_by : (old new : ScriptState) (core : Core) → old.session ≡ None → new.session ≡ Some core → IfNone old.session (IfSome new.session (HasBegunHeld new.moment.device)) → HasBegunHeld new.moment.device core
@@ -111,13 +129,13 @@ handed_on left old new stays settled ready held = record {
 }
 
 module _ (log : Log) (room : Room) (old new : ScriptState) (between : IsBetween old.moment old.session old.posts) (named : IfSome old.session (λ core. core.history.run ≡ log.run)) (begins : IfNone old.session (IfSome new.session (HasBegunHeld new.moment.device))) where
-  by_command : (c : Command) → is_group_command c ≡ true → StoodBefore log.run (role_of (Ok (Some c))) old new → CommandDoes log room c old new reply.Ok → LeavesOn (Ok (Some c)) old new
+  by_command : (c : Command) → is_group_command c ≡ true → StoodBefore log.run (role_of (Ok (Some c))) old new → CommandDoes log room c old new reply.Ok → LeavesSettled (Ok (Some c)) old new
   by_command (command.Mkvg force name mib disks) acked stood (NoMemoryForLine off says asked) = absurd (cc (says))
   by_command (command.Mkvg force name mib disks) acked stood (NoMkvgWhileOn on says asked) = absurd (cc (says))
   by_command (command.Mkvg force name mib disks) acked stood (Makes brings) = by_given brings.given brings.gives brings.left
     where
       by_given : (given : Result Core Cause) → MkvgOnceQuiet itself (asked_for name mib disks force new.last) room patience_of_line (log_with log old.moment.facts) old.moment.device (outcome_of brings.shelf brings.history given)
-          → IsLeftByCall brings.shelf brings.history old new reply.Ok given → LeavesOn (Ok (Some (command.Mkvg force name mib disks))) old new
+          → IsLeftByCall brings.shelf brings.history old new reply.Ok given → LeavesSettled (Ok (Some (command.Mkvg force name mib disks))) old new
       by_given (Ok core) gives left = record {
         core = core;
         on = left.2.after;
@@ -128,7 +146,7 @@ module _ (log : Log) (room : Room) (old new : ScriptState) (between : IsBetween 
   by_command (command.Varyon name) acked stood (NoVaryonWhileOn on says asked) = absurd (cc (says))
   by_command (command.Varyon name) acked stood (Varies brings) = by_given brings.given brings.left
     where
-      by_given : (given : Result Core Cause) → IsLeftByCall brings.shelf brings.history old new reply.Ok given → LeavesOn (Ok (Some (command.Varyon name))) old new
+      by_given : (given : Result Core Cause) → IsLeftByCall brings.shelf brings.history old new reply.Ok given → LeavesSettled (Ok (Some (command.Varyon name))) old new
       by_given (Ok core) left = record { core = core; on = left.2.after; begun = begun_by old new core brings.off left.2.after begins; own = λ k is. absurd is }
       by_given (Err why) left = absurd (let e = left.answered in cc (e))
   by_command (command.ChvgQuorum on name) acked stood (NoGroupForChvgQuorum none is) = absurd (let e = is.0 in cc (e))
@@ -216,17 +234,42 @@ module _ (log : Log) (room : Room) (old new : ScriptState) (between : IsBetween 
   by_command (command.Splitlvcopy made name copies) acked stood (SplitlvcopyFails core left mid lv why some drains its done says) = absurd (cc (says))
   by_command _ acked stood does = absurd (cc (acked))
 
-  pub leaves_on : (read : Result (Option Command) Misfit) (answer : Reply) → is_acknowledged read answer ≡ true → StoodBefore log.run (role_of read) old new → LineDoes log room read old new answer → LeavesOn read old new
-  leaves_on (Err misfit) answer acked stood does = absurd (cc (acked))
-  leaves_on (Ok None) answer acked stood does = absurd (cc (acked))
-  leaves_on (Ok (Some c)) reply.Ok acked stood does = by_command c acked stood does
-  leaves_on (Ok (Some c)) reply.Silent acked stood does = absurd (cc (acked))
-  leaves_on (Ok (Some c)) reply.Posted acked stood does = absurd (cc (acked))
-  leaves_on (Ok (Some c)) (reply.Stepped turns) acked stood does = absurd (cc (acked))
-  leaves_on (Ok (Some c)) (reply.Synced made) acked stood does = absurd (cc (acked))
-  leaves_on (Ok (Some c)) (reply.Lines text) acked stood does = absurd (cc (acked))
-  leaves_on (Ok (Some c)) (reply.Answers text refused) acked stood does = absurd (cc (acked))
-  leaves_on (Ok (Some c)) (reply.Refused why) acked stood does = absurd (cc (acked))
+  -- copies have moved as they were to
+  moved_leaves : (volume : Option (List ℕ)) (from to moved : ℕ) → StandsForMoves log.run OfRequests old new → MigratepvDoes volume from to old new (reply.Migrated moved) → LeavesOn (Ok (Some (command.Migratepv volume from to))) old new
+  moved_leaves volume from to moved may (NoGroupForMoves none is) = absurd (let e = is.0 in cc (e))
+  moved_leaves volume from to moved may (NotAskedForMoves core why some not_asked is) = absurd (let e = is.0 in cc (e))
+  moved_leaves volume from to moved may (NothingMoves core lv some asked none says same) = record {
+    core = core;
+    on = ap (λ (s : ScriptState). s.session) same ∙ some;
+    only = λ facts kept k it. empty_only log.run old new between named may core some none k (subst (λ (s : ScriptState). MayBeFound s.moment.device core.descriptor.id k) same it);
+    own = λ k is. own_moved log.run old new between named may volume from to core some k is;
+  }
+  moved_leaves volume from to moved may (MovesCopies core lv some asked volumes its) =
+      let on = moved_on its.result its.says its.on in
+      record {
+        core = its.end.core;
+        on = session_on log.run old new between named may core some volumes lv from to (reply.Migrated moved) its on refl;
+        only = λ facts kept k it. only_end log.run old new between named may core some volumes lv from to (reply.Migrated moved) its on k it;
+        own = λ k is. own_moved log.run old new between named may volume from to core some k is ∙ sym (end_id log.run old new between named may core some volumes lv from to (reply.Migrated moved) its);
+      }
+    where
+      moved_on : (r : Result ℕ MoveFault) → reply.Migrated moved ≡ move_reply r → IfOk r (λ n. its.end.core.power ≡ power.On) → its.end.core.power ≡ power.On
+      moved_on (Ok n) says on = on
+      moved_on (Err why) says on = absurd (cc (says))
+
+  pub leaves_on : (read : Result (Option Command) Misfit) (answer : Reply) → is_acknowledged read answer ≡ true → StoodBefore log.run (role_of read) old new → MayMoveCopies log.run read old new → LineDoes log room read old new answer → LeavesOn read old new
+  leaves_on (Err misfit) answer acked stood may does = absurd (cc (acked))
+  leaves_on (Ok None) answer acked stood may does = absurd (cc (acked))
+  leaves_on (Ok (Some c)) reply.Ok acked stood may does = settled_leaves (Ok (Some c)) old new (by_command c acked stood does)
+  leaves_on (Ok (Some (command.Migratepv volume from to))) (reply.Migrated moved) acked stood may does = moved_leaves volume from to moved may does
+  leaves_on (Ok (Some c)) reply.Silent acked stood may does = absurd (cc (acked))
+  leaves_on (Ok (Some c)) reply.Posted acked stood may does = absurd (cc (acked))
+  leaves_on (Ok (Some c)) (reply.Stepped turns) acked stood may does = absurd (cc (acked))
+  leaves_on (Ok (Some c)) (reply.Synced made) acked stood may does = absurd (cc (acked))
+  leaves_on (Ok (Some c)) (reply.Migrated moved) acked stood may does = absurd (cc (acked))
+  leaves_on (Ok (Some c)) (reply.Lines text) acked stood may does = absurd (cc (acked))
+  leaves_on (Ok (Some c)) (reply.Answers text refused) acked stood may does = absurd (cc (acked))
+  leaves_on (Ok (Some c)) (reply.Refused why) acked stood may does = absurd (cc (acked))
 
 -- something was heard of it
 pub was_heard : (read : Result (Option Command) Misfit) (answer : Reply) → is_acknowledged read answer ≡ true → IsStuck answer → ⊥
@@ -237,6 +280,7 @@ was_heard (Ok (Some c)) reply.Silent acked stuck = cc (stuck)
 was_heard (Ok (Some c)) reply.Posted acked stuck = cc (stuck)
 was_heard (Ok (Some c)) (reply.Stepped turns) acked stuck = cc (stuck)
 was_heard (Ok (Some c)) (reply.Synced made) acked stuck = cc (stuck)
+was_heard (Ok (Some c)) (reply.Migrated moved) acked stuck = cc (stuck)
 was_heard (Ok (Some c)) (reply.Lines text) acked stuck = cc (stuck)
 was_heard (Ok (Some c)) (reply.Answers text refused) acked stuck = cc (stuck)
 was_heard (Ok (Some c)) (reply.Refused why) acked stuck = cc (acked)

@@ -13,7 +13,7 @@ use Rattle.lvm_line.specs.passed.ReplyVariants as reply
 use Rattle.lvm_line.specs.passed.RuleFaultVariants as fault
 use Rattle.lvm_line.specs.passed.VolumeLines.{Drains, IsChangeDone, ChvgQuorumDoes, NoGroupForChvgQuorum, BusyChvgQuorum, UndrainedChvgQuorum, SwitchesQuorum, ChvgQuorumFails, ChvgBigDoes, NoGroupForChvgBig, BusyChvgBig, UndrainedChvgBig, BecomesBig, ChvgBigFails, change_refusal}
 use Rattle.lvm_line.proofs.passed.Tie.{path_frames}
-use Rattle.lvm_top.specs.Standing.{IsToCommit, MayHaveCommitted, StoodBefore}
+use Rattle.lvm_top.specs.Standing.{IsToCommit, MayHaveCommitted, MayHaveTried, StoodBefore}
 use Rattle.lvm_top.proofs.Devices.{same_nothing}
 use Rattle.lvm_top.proofs.StandingLemmas.Volumes.{drained_nothing, held_mid, idle_nothing, undrained_nothing}
 
@@ -55,7 +55,7 @@ module _ (run : ℕ) (old new : ScriptState) (between : IsBetween old.moment old
 
   -- ---- a command that changes the descriptor so
 
-  module _ (answer : Reply) (read : Result (Option Command) Misfit) (N : Descriptor → Descriptor → Type 0) (its : (k : Descriptor) → IsSomeAnd old.session (λ core. N core.descriptor k) → IsToCommit read old new k) where
+  module _ (answer : Reply) (read : Result (Option Command) Misfit) (N : Descriptor → Descriptor → Type 0) (its : (k : Descriptor) → IsSomeAnd old.session (λ core. N core.descriptor k) → IsToCommit read old new k) (tries : (answer ≡ reply.Ok) ⊎ IsBrokenOff answer → MayHaveTried read answer) where
     abbrev FoundByChange : Type 0
     FoundByChange = (id : ℕ) (k : Descriptor) → MayBeFound new.moment.device id k → MayBeFound old.moment.device id k ⊎ MayHaveCommitted read answer old new id k
 
@@ -66,7 +66,7 @@ module _ (run : ℕ) (old new : ScriptState) (between : IsBetween old.moment old
       pub tried_change : {Gives : State → State → Type 0} {over : Bool} {joins erases : List ℕ} → (answer ≡ reply.Ok) ⊎ IsBrokenOff answer → IsChangeDone (N mid.core.descriptor) joins erases Gives over mid old new → FoundByChange
       tried_change tried done id k it = ⊎_elim
           (λ before. inl before)
-          (λ found. inr (record { tried = tried; own = found.0; is = its k (of_group k found.1) }))
+          (λ found. inr (record { tried = tries tried; own = found.0; is = its k (of_group k found.1) }))
           (change_finds (N mid.core.descriptor) core left mid on drains done id k it)
 
       failed_change : (Gives : State → State → Type 0) (why : RuleFault) → (ends_session why ≡ false → (end : State) → Gives mid end → end ≡ mid) → answer ≡ reply.Refused (change_refusal why)
@@ -87,9 +87,9 @@ module _ (run : ℕ) (old new : ScriptState) (between : IsBetween old.moment old
   chvg_quorum_finds answer on name (BusyChvgQuorum mine busy is) id k it = inl (same_nothing old.moment.device new.moment.device (ap (λ (s : ScriptState). s.moment.device) is.1) id k it)
   chvg_quorum_finds answer on name (UndrainedChvgQuorum core why some mine un) id k it = inl (undrained_nothing run old new between named stood core why answer some un id k it)
   chvg_quorum_finds answer on name (SwitchesQuorum core left mid some mine drains done says) id k it =
-      tried_change answer (Ok (Some (command.ChvgQuorum on name))) (λ group. IsNext (with_quorum on group)) (λ k is. is) core left mid some drains (inl says) done id k it
+      tried_change answer (Ok (Some (command.ChvgQuorum on name))) (λ group. IsNext (with_quorum on group)) (λ k is. is) (λ tried. tried) core left mid some drains (inl says) done id k it
   chvg_quorum_finds answer on name (ChvgQuorumFails core left mid why some mine drains done says) id k it =
-      failed_change answer (Ok (Some (command.ChvgQuorum on name))) (λ group. IsNext (with_quorum on group)) (λ k is. is) core left mid some drains (λ was is. RuleGives (with_quorum on was.core.descriptor) left was is (Err why)) why
+      failed_change answer (Ok (Some (command.ChvgQuorum on name))) (λ group. IsNext (with_quorum on group)) (λ k is. is) (λ tried. tried) core left mid some drains (λ was is. RuleGives (with_quorum on was.core.descriptor) left was is (Err why)) why
       (λ goes end gives. rule_refused (with_quorum on mid.core.descriptor) left mid end why goes gives) says done id k it
 
   pub chvg_big_finds : (answer : Reply) (name : List ℕ) → ChvgBigDoes name old new answer
@@ -98,7 +98,7 @@ module _ (run : ℕ) (old new : ScriptState) (between : IsBetween old.moment old
   chvg_big_finds answer name (BusyChvgBig mine busy is) id k it = inl (same_nothing old.moment.device new.moment.device (ap (λ (s : ScriptState). s.moment.device) is.1) id k it)
   chvg_big_finds answer name (UndrainedChvgBig core why some mine un) id k it = inl (undrained_nothing run old new between named stood core why answer some un id k it)
   chvg_big_finds answer name (BecomesBig core left mid some mine drains done says) id k it =
-      tried_change answer (Ok (Some (command.ChvgBig name))) (λ group. IsNext (as_big group)) (λ k is. is) core left mid some drains (inl says) done id k it
+      tried_change answer (Ok (Some (command.ChvgBig name))) (λ group. IsNext (as_big group)) (λ k is. is) (λ tried. tried) core left mid some drains (inl says) done id k it
   chvg_big_finds answer name (ChvgBigFails core left mid why some mine drains done says) id k it =
-      failed_change answer (Ok (Some (command.ChvgBig name))) (λ group. IsNext (as_big group)) (λ k is. is) core left mid some drains (λ was is. BigGives left was is (Err why)) why
+      failed_change answer (Ok (Some (command.ChvgBig name))) (λ group. IsNext (as_big group)) (λ k is. is) (λ tried. tried) core left mid some drains (λ was is. BigGives left was is (Err why)) why
       (λ goes end gives. big_refused left mid end why goes gives) says done id k it

@@ -1,2 +1,2 @@
 -- Passed on from `lvm_going` and `lvm_going_laws`.
-pub use Rattle.lvm_range_lines.proofs.passed.Tie.{goes_any, going_leaves, path_frames, path_shape, runs_both, runs_none}
+pub use Rattle.lvm_range_lines.proofs.passed.Tie.{goes_any, going_leaves, going_moves_on, moves_find_theirs, path_frames, path_shape, runs_both, runs_none}

@@ -2,6 +2,7 @@ use Rattle.std.proofs.Common.{◌≤◌, refl, sym, subst, ℕ, List, length}
 use Rattle.lvm_disk.specs.declared.shelf.Arrange.TheVariants as arrange
 use Rattle.lvm_volume_lines.specs.passed.GroupLines.{ArrangeDoes, CommandEnds, Aside, most_refusals, session_in, shelf_in, Reply, MkvgDoes, DiskShows, GroupShows, VolumeShows}
 use Rattle.lvm_line.proofs.LinesLemmas.Lining.{done_by, listed_by, one_disk, one_group, one_volume, order_left, served_by}
+use Rattle.lvm_parse.specs.Within.{IsWithinLimits}
 use Rattle.lvm_line.proofs.line.do_command.Goals as goal
 
 pub returns-in-Mkvg : goal.returns-in-Mkvg
@@ -85,6 +86,14 @@ returns-in-Lsvg g c =
     listed_by g.S.Shelf.device c.args.room c.args.command _ c.args.stage _ c.answered.result.reply _ _ c.in-Lsvg.is c.requires.fits c.requires.between c.answered.ensures.stage
     (subst (λ (r : Reply). most_refusals r ≤ 1) (sym says) (one_group c.in-Lsvg.volumes c.in-Lsvg.name (session_in c.args.stage) c.list_group-reply.result c.list_group-reply.ensures))
     (λ log same. (subst (λ (r : Reply). GroupShows c.in-Lsvg.volumes c.in-Lsvg.name (session_in c.args.stage) r) (sym says) c.list_group-reply.ensures, same)) refl
+
+pub do_migratepv-reply-requires-clause-differ : goal.do_migratepv-reply-requires-clause-differ
+do_migratepv-reply-requires-clause-differ g c = subst IsWithinLimits c.in-Migratepv.is c.requires.within
+
+pub returns-in-Migratepv : goal.returns-in-Migratepv
+returns-in-Migratepv g c =
+    served_by g.S.Shelf.device c.args.room c.args.command _ c.args.stage c.do_migratepv-reply.new.stage c.do_migratepv-reply.result c.left-in-Migratepv.result.stage c.left-in-Migratepv.result.reply (g.C.Clock.last c.args.clock.now) (g.C.Clock.asked c.args.clock.now) c.in-Migratepv.is c.left-in-Migratepv.ensures.left c.left-in-Migratepv.ensures.reply
+    (c.do_migratepv-reply.ensures c.left-in-Migratepv.result.stage c.left-in-Migratepv.ensures.left (g.C.Clock.last c.args.clock.now)) refl
 
 pub returns-in-SyncVolume : goal.returns-in-SyncVolume
 returns-in-SyncVolume g c =

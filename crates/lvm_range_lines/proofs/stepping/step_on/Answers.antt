@@ -3,9 +3,9 @@ use Rattle.lvm_session.specs.declared.open.Power.TheVariants as power
 use Rattle.lvm_session.specs.State.{state_of}
 use Rattle.lvm_group_lines.specs.declared.reply.Reply.{Reply}
 use Rattle.lvm_group_lines.specs.Replies.{most_refusals}
-use Rattle.lvm_group_lines.proofs.passed.Tie.{path_frames}
+use Rattle.lvm_group_lines.proofs.passed.Tie.{goes_any, path_frames}
 use Rattle.lvm_range_lines.specs.Stepping.{StepDoes, Steps, step_reply}
-use Rattle.lvm_range_lines.proofs.LeavingLemmas.Ending.{RunsTo, carried_ends, carried_leaves, runs_to}
+use Rattle.lvm_range_lines.proofs.LeavingLemmas.Ending.{RunsTo, carried_ends, carried_leaves, runs_to, unstuck}
 use Rattle.lvm_range_lines.proofs.LeavingLemmas.Posting.{table_posts}
 use Rattle.lvm_range_lines.proofs.RepliesLemmas.{carried_by}
 use Rattle.lvm_range_lines.proofs.SteppingLemmas.{step_few, step_heard, step_stops}
@@ -42,4 +42,4 @@ returns g c = λ bytes posts fits between stage left.
       leaves = carried_leaves device end posts bytes stage last stood carried;
       says = says;
     }))
-    stood (left.rooms first.1.history.room fits.rooms) (λ on. (path_frames made.runs).copy between.session.copy) carried
+    stood (left.rooms first.1.history.room fits.rooms) (λ on. (path_frames made.runs).copy between.session.copy) (unstuck device first posts bytes fits between end (goes_any made.runs)) carried

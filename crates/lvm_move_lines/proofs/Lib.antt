@@ -1,0 +1,4 @@
+pub mod AskingLemmas
+pub mod EmptyLemmas
+pub mod MovingLemmas
+pub mod FindingLemmas

@@ -1,0 +1,3 @@
+pub mod passed
+pub mod Asking
+pub mod Moving

@@ -1,0 +1,3 @@
+pub mod Migrate
+pub mod MoveFaultVariants
+pub mod MovePlan
