@@ -14,7 +14,7 @@ use Rattle.lvm_vol.specs.Facts.{Request, Fact, Begun, IsInList, block_of}
 use Rattle.lvm_vol.specs.May.{known, May}
 use Rattle.lvm_vol.specs.Legal.{begins_in, lands, takes, IsOutcomeOf, Gets, GotMay, TakenOnce, IsLater, Fits, LegalFrom}
 use Rattle.lvm_vol.specs.Log.{is_got}
-use Rattle.lvm_vol.proofs.passed.Names.{same_itself, same_turned}
+use Rattle.lvm_vol.proofs.passed.Num.{same_itself, same_turned}
 use Rattle.lvm_allowed.specs.Rows.{no_ask, ask_of, blocks_at, request_in, fact_of, facts_of, is_landing, is_taking}
 use Rattle.lvm_allowed.specs.Fitting.{is_begin, is_beginning, is_earlier_on, is_bounded, is_kind}
 

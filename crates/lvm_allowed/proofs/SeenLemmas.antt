@@ -7,8 +7,8 @@ use Rattle.std.proofs.lemmas.List.Sums.{fold_push}
 use Rattle.std.proofs.lemmas.List.Folds.{list_any-append}
 use Rattle.std.proofs.lemmas.Slice.Eq.{bytes_eq-Decides}
 use Rattle.std.proofs.lemmas.Bool.{eqb-true, or_parts}
-use Rattle.lvm_vol.specs.passed.Names.{Sector, zero_sector}
-use Rattle.lvm_vol.proofs.passed.Names.{and_true, and_false, or_false, same_itself, same_turned, any_map}
+use Rattle.lvm_vol.specs.passed.Num.{Sector, zero_sector}
+use Rattle.lvm_vol.proofs.passed.Num.{and_true, and_false, or_false, same_itself, same_turned, any_map}
 use Rattle.lvm_vol.specs.declared.entry.Vol.{Vol}
 use Rattle.lvm_vol.specs.declared.entry.Vol.TheVariants.{Lv}
 use Rattle.lvm_vol.specs.declared.entry.Outcome.{Outcome}

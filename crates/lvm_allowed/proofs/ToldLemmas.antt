@@ -5,8 +5,8 @@ use Rattle.std.specs.Option.{unwrap_or}
 use Rattle.std.specs.Str.{bytes_eq}
 use Rattle.std.proofs.lemmas.Bool.{or_cases, and_parts}
 use Rattle.std.proofs.lemmas.List.{take_all}
-use Rattle.lvm_vol.specs.passed.Names.{Sector, zero_sector}
-use Rattle.lvm_vol.proofs.passed.Names.{or_false}
+use Rattle.lvm_vol.specs.passed.Num.{Sector, zero_sector}
+use Rattle.lvm_vol.proofs.passed.Num.{or_false}
 use Rattle.lvm_vol.specs.declared.entry.Vol.{Vol}
 use Rattle.lvm_vol.specs.declared.entry.Vol.TheVariants.{Lv}
 use Rattle.lvm_vol.specs.declared.entry.Outcome.{Outcome}

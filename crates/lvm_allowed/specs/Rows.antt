@@ -1,7 +1,7 @@
 -- What the rows of a history stand for.
 use Rattle.std.specs.Prelude.{◌≡◌, ◌==◌, ℕ, ◌+◌, ◌-◌, ◌*◌, ◌/◌, ◌^◌, ◌<◌, ◌≤◌, Bool, true, false, if◌then◌else◌, List, [], ◌∷◌, length, map, take, drop, slice_index_or, slice_get, not, ◌&&◌, Option, Some, None, replicate}
 use Rattle.std.specs.Simd.{first_chunks}
-use Rattle.lvm_vol.specs.passed.Names.{zero_sector}
+use Rattle.lvm_vol.specs.passed.Num.{zero_sector}
 use Rattle.lvm_vol.specs.declared.entry.Vol.TheVariants.{Disk}
 use Rattle.lvm_vol.specs.declared.entry.Entry.{Entry}
 use Rattle.lvm_vol.specs.declared.entry.Entry.TheVariants as entry

@@ -6,7 +6,7 @@
 ghost use Rattle.std.specs.Prelude.{◌≡◌, ◌↔◌, ℕ, ◌&&◌, ◌||◌, ◌==◌, not, IsTrue, true, false, fold};
 ghost use Rattle.std.specs.List.{list_any};
 ghost use Rattle.std.specs.Str.{bytes_eq};
-ghost use Rattle.lvm_vol.specs.passed.Names.{zero_sector};
+ghost use Rattle.lvm_vol.specs.passed.Num.{zero_sector};
 ghost use Rattle.lvm_vol.specs.Facts.{block_of};
 ghost use Rattle.lvm_vol.specs.May.{is_off, known, May};
 ghost use Rattle.lvm_allowed.specs.Rows.{ask_of, blocks_at, facts_of};

@@ -14,7 +14,7 @@ use Rattle.lvm_num.specs.Descriptor.{IsPartitionOf, IsValid, partitions_in}
 use Rattle.lvm_num.specs.Disks.{has}
 use Rattle.lvm_status.specs.Calls.{IsMarkable}
 use Rattle.lvm_status.specs.Members.{HasItsRows}
-use Rattle.lvm_calls.proofs.passed.Names.{copies_in_are, place_of}
+use Rattle.lvm_calls.proofs.passed.Due.{copies_in_are, place_of}
 use Rattle.lvm_session.specs.declared.bringing.CopyEnd.TheVariants as ending
 use Rattle.lvm_session.specs.declared.bringing.OpenCopy.{OpenCopy}
 use Rattle.lvm_session.specs.State.{Core}

@@ -2,8 +2,8 @@
 use Rattle.std.proofs.Common.{◌≡◌, ◌+◌, ◌-◌, ◌<◌, ◌≤◌, ◌&&◌, ◌||◌, ◌∙◌, ℕ, Bool, true, false, cond, List, Option, Some, None, refl, sym, ap, subst, length, take, get_or}
 use Rattle.std.specs.Prelude.{nat_lt}
 use Rattle.std.specs.Str.{bytes_eq}
-use Rattle.lvm_vol.specs.passed.Names.{Sector, zero_sector}
-use Rattle.lvm_vol.proofs.passed.Names.{or_false, and_false}
+use Rattle.lvm_vol.specs.passed.Num.{Sector, zero_sector}
+use Rattle.lvm_vol.proofs.passed.Num.{or_false, and_false}
 use Rattle.lvm_vol.specs.declared.entry.Vol.{Vol}
 use Rattle.lvm_vol.specs.declared.entry.Vol.TheVariants.{Lv}
 use Rattle.lvm_vol.specs.declared.entry.Outcome.{Outcome}

@@ -1,6 +1,6 @@
 -- The two chains along which a block's values are looked for, and what is found there.
 use Rattle.std.specs.Prelude.{◌≡◌, ◌-◌, ◌≤◌, ℕ, Bool, true, false, ◌&&◌, nat_lt, nat_le, if◌then◌else◌, List, Option, Some, None, slice_index_or}
-use Rattle.lvm_vol.specs.passed.Names.{Sector}
+use Rattle.lvm_vol.specs.passed.Num.{Sector}
 use Rattle.lvm_vol.specs.declared.entry.Vol.{Vol}
 use Rattle.lvm_vol.specs.declared.entry.Vol.TheVariants.{Lv}
 use Rattle.lvm_vol.specs.declared.entry.Outcome.{Outcome}

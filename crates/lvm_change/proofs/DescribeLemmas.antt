@@ -26,7 +26,8 @@ use Rattle.lvm_rec.specs.declared.homes.Homes.{Homes}
 use Rattle.lvm_rec.specs.Homes.{Flips, second_slots}
 use Rattle.lvm_write.specs.Writes.{DiskWritesLeave, EachTried}
 use Rattle.lvm_write.specs.Written.{write_of, KeepsShelf, StandsTold, written_well}
-use Rattle.lvm_write.proofs.passed.Names.{spelled_is_read, is_read_again}
+use Rattle.lvm_write.proofs.passed.Vgda.{spelled_is_read}
+use Rattle.lvm_write.proofs.passed.Vgsa.{is_read_again}
 use Rattle.lvm_write.proofs.PartsLemmas.Transfers.{keeps_here, keeps_then, spends_none, spends_then, darkened_then, given_up_then, still_room}
 use Rattle.lvm_write.proofs.WrittenLemmas.Writing.{if_told, told_at, both_at, writing_here}
 use Rattle.lvm_commit.specs.Committed.{next_stamp}

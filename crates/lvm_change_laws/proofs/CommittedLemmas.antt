@@ -2,8 +2,8 @@
 use Rattle.std.proofs.Common.{◌≡◌, inl, inr, ⊎_elim, ℕ, Option, Some, refl, sym, ap, subst, ◌∙◌, eq-eqb}
 use Rattle.std.specs.Prelude.{IsTrue}
 use Rattle.std.proofs.lemmas.Bool.{eqb-true}
-use Rattle.lvm_disk.specs.passed.Names.{Descriptor, Status, Disks, all_disks, CanRead, Stamped}
-use Rattle.lvm_disk.proofs.passed.Names.{read_meets_write}
+use Rattle.lvm_disk.specs.passed.Num.{Descriptor, Status, Disks, all_disks, CanRead, Stamped}
+use Rattle.lvm_disk.proofs.passed.Num.{read_meets_write}
 use Rattle.lvm_kept.specs.Group.{is_of, is_status_of, descriptor_among, Finds, members_in, status_by, fresh_on, ReadsGroup, IsSome}
 use Rattle.lvm_kept.specs.Kept.{BlocksKept}
 use Rattle.lvm_kept.proofs.CommittedLemmas.Finding.{finding_reads, finds_from}

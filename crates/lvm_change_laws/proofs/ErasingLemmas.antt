@@ -2,8 +2,8 @@
 use Rattle.std.proofs.Common.{◌≡◌, inl, inr, ⊎_elim, ℕ, ◌<◌, ◌≤◌, Bool, true, false, ◌&&◌, List, [], ◌∷◌, ◌++◌, Option, Some, None, refl, sym, ap, subst, ◌∙◌, eq-eqb}
 use Rattle.std.specs.Prelude.{IsTrue, ◌==◌, not, if◌then◌else◌}
 use Rattle.std.proofs.lemmas.Bool.{eqb-true, ne_eqb, cases_eq}
-use Rattle.lvm_disk.specs.passed.Names.{Descriptor, Status, LvRow, Disks, data_start, all_disks, CanRead, CanWrite, Stamped, newest_below}
-use Rattle.lvm_disk.proofs.passed.Names.{read_meets_write, without_first}
+use Rattle.lvm_disk.specs.passed.Num.{Descriptor, Status, LvRow, Disks, data_start, all_disks, CanRead, CanWrite, Stamped, newest_below}
+use Rattle.lvm_disk.proofs.passed.Num.{read_meets_write, without_first}
 use Rattle.lvm_vol.specs.declared.entry.Vol.TheVariants.{Disk}
 use Rattle.lvm_vol.specs.Facts.{Fact, Cut}
 use Rattle.lvm_vol.specs.May.{May, known}

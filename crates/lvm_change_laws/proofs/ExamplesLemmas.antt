@@ -4,8 +4,8 @@ use Rattle.std.specs.Prelude.{IsTrue, if◌then◌else◌}
 use Rattle.std.proofs.lemmas.Bool.{eqb-true}
 use Rattle.std.proofs.lemmas.Option.{same_Some}
 use Rattle.lvm_num.specs.Votes.{all_disks}
-use Rattle.lvm_disk.specs.passed.Names.{PvRow, LvRow, Descriptor, Status, Disks, Stamped, stamp_lt, member_of, volume_of, CanRead, CanWrite, newest_below, votes_by}
-use Rattle.lvm_disk.proofs.passed.Names.{is_one, read_meets_read}
+use Rattle.lvm_disk.specs.passed.Num.{PvRow, LvRow, Descriptor, Status, Disks, Stamped, stamp_lt, member_of, volume_of, CanRead, CanWrite, newest_below, votes_by}
+use Rattle.lvm_disk.proofs.passed.Num.{is_one, read_meets_read}
 use Rattle.lvm_vol.specs.Facts.{Fact}
 use Rattle.lvm_vol.specs.Standing.{volumes_in}
 use Rattle.lvm_kept.specs.Contents.{Contents}

@@ -22,7 +22,7 @@ use Rattle.lvm_num.proofs.VotesLemmas.{read_meets_write, more_have_more, more_is
 use Rattle.lvm_rec.specs.Slots.{slot_for, IsTornWrite, BothBefore}
 use Rattle.lvm_vol.specs.Facts.{Fact}
 use Rattle.lvm_disk.specs.Device.{Image, IsWholeImage}
-use Rattle.lvm_disk.specs.passed.Names.{sectors_needed}
+use Rattle.lvm_disk.specs.passed.Num.{sectors_needed}
 use Rattle.lvm_kept.specs.Contents.{Contents, contents_of, descriptor_on}
 use Rattle.lvm_kept.specs.Group.{passes, is_of, has_room, Finds, IsFound, members_in}
 use Rattle.lvm_kept.specs.Kept.{Kept}

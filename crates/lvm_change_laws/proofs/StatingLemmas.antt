@@ -4,8 +4,8 @@ use Rattle.std.specs.Prelude.{IsTrue, ◌==◌, not, if◌then◌else◌}
 use Rattle.std.proofs.lemmas.Option.{same_Some}
 use Rattle.std.proofs.lemmas.Bool.{eqb-true, cases_eq}
 use Rattle.std.proofs.lemmas.Bool.Decides.{nat_tests}
-use Rattle.lvm_disk.specs.passed.Names.{Stamp, Pp, LvRow, Descriptor, Status, Disks, copies_of, all_disks, CanRead, Stamped, stamp_lt, newest_below}
-use Rattle.lvm_disk.proofs.passed.Names.{without_first}
+use Rattle.lvm_disk.specs.passed.Num.{Stamp, Pp, LvRow, Descriptor, Status, Disks, copies_of, all_disks, CanRead, Stamped, stamp_lt, newest_below}
+use Rattle.lvm_disk.proofs.passed.Num.{without_first}
 use Rattle.lvm_vol.specs.declared.entry.Vol.TheVariants.{Lv}
 use Rattle.lvm_vol.specs.Facts.{Fact, Cut}
 use Rattle.lvm_vol.specs.May.{Known, known}

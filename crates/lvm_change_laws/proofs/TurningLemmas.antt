@@ -4,8 +4,8 @@ use Rattle.std.specs.Prelude.{IsTrue, ◌==◌, not, if◌then◌else◌, filter
 use Rattle.std.proofs.lemmas.Option.{same_Some}
 use Rattle.std.proofs.lemmas.Bool.{eqb-true, cases_eq, and_parts}
 use Rattle.std.proofs.lemmas.Bool.Decides.{nat_tests}
-use Rattle.lvm_disk.specs.passed.Names.{Stamp, Pp, PvRow, LvRow, Descriptor, Status, Disks, copies_of, member_of, volume_of, all_disks, CanRead, Stamped, stamp_lt, newest_below}
-use Rattle.lvm_disk.proofs.passed.Names.{is_one, is_last, without_first, read_meets_read}
+use Rattle.lvm_disk.specs.passed.Num.{Stamp, Pp, PvRow, LvRow, Descriptor, Status, Disks, copies_of, member_of, volume_of, all_disks, CanRead, Stamped, stamp_lt, newest_below}
+use Rattle.lvm_disk.proofs.passed.Num.{is_one, is_last, without_first, read_meets_read}
 use Rattle.lvm_vol.specs.declared.entry.Vol.TheVariants.{Lv}
 use Rattle.lvm_vol.specs.Facts.{Fact, Cut}
 use Rattle.lvm_vol.specs.May.{Known, known}

@@ -1,6 +1,6 @@
 -- What stands on the disks of a session at which nothing is under way, where its members may change.
 use Rattle.std.specs.Prelude.{◌≡◌, ◌⊎◌, ℕ, ◌<◌, ◌≤◌, ◌++◌, ◌∷◌, [], true, false, List, Some, None, IsTrue}
-use Rattle.lvm_disk.specs.passed.Names.{Descriptor, Status, Disks, data_start, all_disks, CanRead, CanWrite, Stamped, stamp_lt}
+use Rattle.lvm_disk.specs.passed.Num.{Descriptor, Status, Disks, data_start, all_disks, CanRead, CanWrite, Stamped, stamp_lt}
 use Rattle.lvm_vol.specs.declared.entry.Vol.TheVariants.{Disk}
 use Rattle.lvm_vol.specs.Facts.{Fact, Cut}
 use Rattle.lvm_vol.specs.May.{May, known}

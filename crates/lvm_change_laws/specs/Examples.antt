@@ -1,6 +1,6 @@
 -- A small group, worked by hand, that a disk has left.
 use Rattle.std.specs.Prelude.{ℕ, Bool, true, false, ◌==◌, if◌then◌else◌, List, [], ◌∷◌, Option, Some, None}
-use Rattle.lvm_disk.specs.passed.Names.{Descriptor, Status, Disks, Stamped, CanWrite}
+use Rattle.lvm_disk.specs.passed.Num.{Descriptor, Status, Disks, Stamped, CanWrite}
 use Rattle.lvm_vol.specs.declared.entry.Vol.TheVariants.{Disk}
 use Rattle.lvm_vol.specs.Facts.{Fact, Removed}
 use Rattle.lvm_kept.specs.Contents.{Contents}

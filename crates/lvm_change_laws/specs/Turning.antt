@@ -1,6 +1,6 @@
 -- A group turns from one descriptor to the next, by which it has other members or another rule of votes, and the same volumes.
 use Rattle.std.specs.Prelude.{◌≡◌, ◌⊎◌, ℕ, ◌<◌, true, List, Some, None, IsTrue}
-use Rattle.lvm_disk.specs.passed.Names.{Pp, PvRow, LvRow, Descriptor, Status, Disks, copies_of, member_of, volume_of, all_disks, CanRead, Stamped, stamp_lt}
+use Rattle.lvm_disk.specs.passed.Num.{Pp, PvRow, LvRow, Descriptor, Status, Disks, copies_of, member_of, volume_of, all_disks, CanRead, Stamped, stamp_lt}
 use Rattle.lvm_num.specs.Descriptor.{IsValid}
 use Rattle.lvm_vol.specs.Facts.{Fact}
 use Rattle.lvm_vol.specs.Standing.{volumes_in}

@@ -6,7 +6,7 @@ use Rattle.lvm_num.specs.Record.{longest_content}
 use Rattle.lvm_num.specs.Status.{IsValidStatus}
 use Rattle.lvm_num.specs.StatusBytes.{status_bytes}
 use Rattle.lvm_num.proofs.DescriptorLemmas.Bounds.{few_dirty}
-use Rattle.lvm_write.proofs.passed.Names.{length-status, dirty_small, few_rows}
+use Rattle.lvm_write.proofs.passed.Vgsa.{length-status, dirty_small, few_rows}
 
 pub status_fits : (s : Status) → IsValidStatus s → length (status_bytes s) ≤ longest_content kind.Status
 status_fits s valid = omega (arith, length-status s valid, dirty_small s.dirty (few_dirty s.dirty valid.dirty), few_rows s valid)

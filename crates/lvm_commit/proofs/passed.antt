@@ -1,1 +1,3 @@
-pub mod Names
+pub mod Steps
+pub mod Transfer
+pub mod Vgda

@@ -12,7 +12,7 @@ use Rattle.lvm_num.specs.Status.{calls_stale, calls_missing}
 use Rattle.lvm_num.specs.Votes.{votes_in, total_votes, is_enough_to_write, CanWrite}
 use Rattle.lvm_disk.specs.Device.{Device, IsReady}
 use Rattle.lvm_kept.specs.Torn.{RecordWrite, IsOfRecord}
-use Rattle.lvm_status.specs.passed.Names.{SameStale, IsLeftIn, MarksLost}
+use Rattle.lvm_status.specs.passed.Status.{SameStale, IsLeftIn, MarksLost}
 use Rattle.lvm_status.specs.Update.{Stored, no_disks}
 use Rattle.lvm_rec.specs.declared.homes.Homes.{Homes}
 use Rattle.lvm_rec.specs.Homes.{Flips}

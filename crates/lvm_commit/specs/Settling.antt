@@ -24,7 +24,7 @@ use Rattle.lvm_kept.specs.Contents.{contents_of}
 use Rattle.lvm_kept.specs.Plans.{Plan}
 use Rattle.lvm_kept.specs.Torn.{RecordWrite, IsOfRecord}
 use Rattle.lvm_kept.specs.Group.{IsOneOf, is_of, passes}
-use Rattle.lvm_status.specs.passed.Names.{SameMissing, IsLeftIn}
+use Rattle.lvm_status.specs.passed.Status.{SameMissing, IsLeftIn}
 use Rattle.lvm_status.specs.Members.{HasItsRows}
 pub use Rattle.lvm_status.specs.Members.{HasSameRows}
 use Rattle.lvm_status.specs.Update.{Stored, members_there}

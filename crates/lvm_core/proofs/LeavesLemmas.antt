@@ -15,7 +15,7 @@ use Rattle.lvm_vol.specs.Legal.{IsLater}
 use Rattle.lvm_vol.specs.Log.{Log, with_fact, is_uncut, cut_log}
 use Rattle.lvm_kept.specs.Contents.{contents_of}
 use Rattle.lvm_kept.specs.Group.{IsFound}
-use Rattle.lvm_commit.proofs.passed.Names.{media_may, later_append}
+use Rattle.lvm_commit.proofs.passed.Steps.{media_may, later_append}
 use Rattle.lvm_status.specs.Update.{Stored}
 use Rattle.lvm_commit.specs.LawsOfFinding.{FindsNothingNew, FindsNoMore, FindsNothingNewOn, FindsNoMoreOn}
 use Rattle.lvm_commit.specs.Settling.{IsPassedOver}

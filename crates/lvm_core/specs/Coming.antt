@@ -4,7 +4,7 @@ use Rattle.lvm_disk.specs.Device.{Device}
 use Rattle.lvm_vol.specs.Facts.{Fact}
 use Rattle.lvm_vol.specs.Log.{Log}
 use Rattle.lvm_kept.specs.Moments.{StaysCalm}
-use Rattle.lvm_commit.specs.passed.Names.{ImagesKept, Keeps, at, ClockIsAhead, StampsAreEarlier}
+use Rattle.lvm_commit.specs.passed.Steps.{ImagesKept, Keeps, at, ClockIsAhead, StampsAreEarlier}
 use Rattle.lvm_write.specs.Parts.{Spends}
 use Rattle.lvm_commit.specs.Settling.{NoneIsLeft}
 use Rattle.lvm_core.specs.declared.refused.Refused.{Refused}

@@ -15,7 +15,7 @@ use Rattle.lvm_vol.specs.Facts.{Fact}
 use Rattle.lvm_kept.specs.Contents.{contents_of}
 use Rattle.lvm_kept.specs.Group.{IsOneOf}
 use Rattle.lvm_kept.specs.Moments.{Moment}
-use Rattle.lvm_commit.specs.passed.Names.{RunBegins, HistoryHolds, StampsAreEarlier}
+use Rattle.lvm_commit.specs.passed.Steps.{RunBegins, HistoryHolds, StampsAreEarlier}
 use Rattle.lvm_write.specs.Written.{IsDarkened, IsGivenUp}
 use Rattle.lvm_commit.specs.Committed.{AreOne}
 use Rattle.lvm_commit.specs.LawsOfData.{IsFree}

@@ -14,7 +14,7 @@ use Rattle.lvm_kept.specs.Contents.{contents_of}
 use Rattle.lvm_kept.specs.Group.{IsFound}
 use Rattle.lvm_kept.specs.Moments.{Moment, StaysCalm}
 use Rattle.lvm_kept.specs.Plans.{Plan}
-use Rattle.lvm_commit.specs.passed.Names.{RunBegins, SpanGoesOn}
+use Rattle.lvm_commit.specs.passed.Steps.{RunBegins, SpanGoesOn}
 use Rattle.lvm_write.specs.Parts.{Spends}
 use Rattle.lvm_write.specs.Written.{KeepsShelf}
 use Rattle.lvm_commit.specs.Settling.{there, HasAnother, HasSameRows, SpendsNumbers, IsOfStatus, IsOfCommit}

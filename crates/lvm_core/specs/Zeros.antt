@@ -6,7 +6,7 @@ use Rattle.lvm_num.specs.Geometry.{data_start, partition_blocks}
 use Rattle.lvm_disk.specs.Counts.{Rose}
 use Rattle.lvm_disk.specs.Device.{Device, IsReady}
 use Rattle.lvm_kept.specs.Plans.{Plan}
-use Rattle.lvm_commit.specs.passed.Names.{Moved}
+use Rattle.lvm_commit.specs.passed.Transfer.{Moved}
 use Rattle.lvm_commit.specs.passed.TransferMovesMoved as moved
 use Rattle.lvm_write.specs.Parts.{DoesPart, IfMoved}
 use Rattle.lvm_commit.specs.LawsOfData.{IsSectorOf}

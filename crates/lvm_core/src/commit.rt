@@ -1,7 +1,7 @@
 //! What a session writes by itself: zeros, its statuses and its descriptors.
 ghost use Rattle.std.specs.Prelude.{◌≡◌, ◌≤◌, ◌<◌, ◌++◌, false, length, replicate, All};
 ghost use Rattle.lvm_disk.specs.Device.{IsReady};
-ghost use Rattle.lvm_session_start.specs.passed.Names.{IsOut};
+ghost use Rattle.lvm_session_start.specs.passed.Pbuf.{IsOut};
 ghost use Rattle.lvm_status.specs.Calls.{IsMarkable};
 ghost use Rattle.lvm_commit.specs.Committed.{IsAlike};
 ghost use Rattle.lvm_commit.specs.Settling.{HoldsWithin, IfBack, MayCommit};

@@ -10,7 +10,7 @@ use Rattle.lvm_num.specs.Note.{note_in}
 use Rattle.lvm_num.specs.Record.{Stamped}
 use Rattle.lvm_num.specs.StatusBytes.{status_of}
 use Rattle.lvm_vol.specs.Facts.{Fact}
-use Rattle.lvm_kept.specs.passed.Names.{Media, Image, Device, IsInFlight, image_of}
+use Rattle.lvm_kept.specs.passed.Disk.{Media, Image, Device, IsInFlight, image_of}
 use Rattle.lvm_kept.specs.Contents.{note_sector, contents_of}
 use Rattle.lvm_kept.specs.Group.{names_if}
 use Rattle.lvm_kept.specs.Plans.{IsUnderWay}

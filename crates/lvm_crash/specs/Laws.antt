@@ -7,7 +7,7 @@ use Rattle.lvm_vol.specs.declared.entry.Vol.TheVariants.{Lv}
 use Rattle.lvm_vol.specs.Facts.{Fact, Cut}
 use Rattle.lvm_vol.specs.declared.entry.Outcome.TheVariants as outcome
 use Rattle.lvm_vol.specs.May.{known, cut}
-use Rattle.lvm_kept.specs.passed.Names.{Media, Image, Device, image_of, MayLeave}
+use Rattle.lvm_kept.specs.passed.Disk.{Media, Image, Device, image_of, MayLeave}
 use Rattle.lvm_kept.specs.Contents.{Contents, contents_of}
 use Rattle.lvm_kept.specs.Committed.{IsWithinDisks}
 use Rattle.lvm_kept.specs.Kept.{Kept}

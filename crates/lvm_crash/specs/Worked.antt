@@ -12,7 +12,7 @@ use Rattle.lvm_num.specs.Note.{Noted, note_bytes}
 use Rattle.lvm_num.specs.DescriptorBytes.{descriptor_bytes}
 use Rattle.lvm_num.specs.StatusBytes.{status_bytes}
 use Rattle.lvm_num.specs.Record.{Stamped, frame, slot_start}
-use Rattle.lvm_kept.specs.passed.Names.{Media, Flight, Device}
+use Rattle.lvm_kept.specs.passed.Disk.{Media, Flight, Device}
 use Rattle.lvm_kept.specs.Contents.{note_sector}
 use Rattle.lvm_kept.specs.Examples.{row_of, status_of_rows, two}
 use Rattle.lvm_invariant.specs.State.{ModelState}

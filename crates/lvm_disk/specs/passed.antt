@@ -1,4 +1,4 @@
-pub mod Names
+pub mod Num
 pub mod NumDescriptorMode
 pub mod NumDescriptorPolicy
 pub mod NumRecordKind

@@ -10,7 +10,7 @@ use Rattle.lvm_disk.specs.Device.{Device, HasSectors}
 use Rattle.lvm_commit.specs.declared.commit.CommitEnd.{CommitEnd}
 use Rattle.lvm_commit.specs.declared.commit.CommitEnd.TheVariants as commit_end
 use Rattle.lvm_commit.specs.Settling.{IsContentOf}
-use Rattle.lvm_commit.proofs.passed.Names.{spelled_is_read}
+use Rattle.lvm_commit.proofs.passed.Vgda.{spelled_is_read}
 use Rattle.lvm_session.specs.declared.answers.CopyState.TheVariants as stage
 use Rattle.lvm_session.specs.declared.bringing.OpenCopy.{OpenCopy}
 use Rattle.lvm_session.specs.declared.session.Session.{Session}
@@ -26,7 +26,7 @@ use Rattle.lvm_core.specs.declared.fault.CommitFault.{CommitFault}
 use Rattle.lvm_core.specs.declared.fault.CommitFault.TheVariants as fault
 use Rattle.lvm_core.proofs.RecordLemmas.{descriptor_fits}
 use Rattle.lvm_keeps_events.specs.Telling.{SameRoom}
-use Rattle.lvm_keeps_events.proofs.passed.Names.{back_long, hands_long}
+use Rattle.lvm_keeps_events.proofs.passed.Keeps.{back_long, hands_long}
 use Rattle.lvm_move.specs.Moving.{CommitsMove, Misses, MoveEnds, Writes, missing_destination}
 use Rattle.lvm_move_keeps.specs.Drained.{IsDrainedMoving}
 use Rattle.lvm_move_keeps.specs.Keeping.{HasMovedTo}

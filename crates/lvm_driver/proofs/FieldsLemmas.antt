@@ -29,7 +29,7 @@ use Rattle.lvm_keeps_events.proofs.SubmitKeepsLemmas.{submit_keeps}
 use Rattle.lvm_keeps_events.proofs.TurningLemmas.{turn_keeps}
 use Rattle.lvm_keeps_events.proofs.OpeningLemmas.Opening.{seen_open_keeps}
 use Rattle.lvm_keeps_events.specs.Opening.{IsApart}
-use Rattle.lvm_keeps_events.specs.passed.Names.{counts_seen}
+use Rattle.lvm_keeps_events.specs.passed.Calls.{counts_seen}
 use Rattle.lvm_going.specs.Moves.{next_of}
 use Rattle.lvm_going.specs.Statuses.{AreValid}
 use Rattle.lvm_going.specs.Going.{AnyStep, BeginsMove, ClosesCopy, RunsOn, LeavesMoving, LeavesSession, MakesTurn, MovingStep, OpensCopy, Orders, RunStep, Submits, Takes}

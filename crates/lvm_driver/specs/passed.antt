@@ -1,1 +1,4 @@
-pub mod Names
+pub mod Calls
+pub mod Going
+pub mod KeepsEvents
+pub mod Write

@@ -18,7 +18,7 @@ ghost use Rattle.lvm_session.specs.Left.{left_of};
 ghost use Rattle.lvm_session.specs.Sound.{IsSound};
 ghost use Rattle.lvm_keeps.specs.Falls.{most_left};
 ghost use Rattle.lvm_keeps_events.specs.Opening.{IsApart};
-ghost use Rattle.lvm_keeps_events.specs.passed.Names.{counts_seen};
+ghost use Rattle.lvm_keeps_events.specs.passed.Calls.{counts_seen};
 ghost use Rattle.lvm_keeps_events.specs.Reading.{GetsItsBlocks};
 ghost use Rattle.lvm_keeps_events.specs.Telling.{TurnTells};
 ghost use Rattle.lvm_going.specs.Frames.{is_moving};
@@ -68,7 +68,7 @@ impl<S: Shelf> Model for Driver<S> {
     ghost use Rattle.lvm_session.specs.Rooms.{HasRooms};
     ghost use Rattle.lvm_session.specs.State.{Core, state};
     ghost use Rattle.lvm_session.specs.Sound.{IsSound};
-    ghost use Rattle.lvm_session_turn.specs.passed.Names.{IsDue};
+    ghost use Rattle.lvm_session_turn.specs.passed.Due.{IsDue};
     ghost use Rattle.lvm_going.specs.Moves.{next_of};
 
     ghost Value = { S × Core };

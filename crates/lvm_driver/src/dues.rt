@@ -5,7 +5,7 @@ ghost use Rattle.lvm_session.specs.Rooms.{HasRooms, SameRooms};
 ghost use Rattle.lvm_session.specs.Calls.{SubmitGives, TakeGives};
 ghost use Rattle.lvm_session.specs.Asking.{IsAsking, IsAwake};
 ghost use Rattle.lvm_session.specs.Sound.{IsTold};
-ghost use Rattle.lvm_session_turn.specs.passed.Names.{IsDue};
+ghost use Rattle.lvm_session_turn.specs.passed.Due.{IsDue};
 
 use lvm_keeps_events::below::{submit_request, take as take_answer};
 use lvm_path::Ask;

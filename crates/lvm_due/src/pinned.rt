@@ -1,6 +1,7 @@
 //! A request gives up its pin.
 ghost use Rattle.std.specs.Prelude.{◌≡◌, ◌≤◌, ◌<◌, ◌^◌, true, if◌then◌else◌};
-ghost use Rattle.lvm_session.specs.passed.Names.{after_unpin, pins_of, at_of, lv_of};
+ghost use Rattle.lvm_session.specs.passed.Mwc.{after_unpin, pins_of};
+ghost use Rattle.lvm_session.specs.passed.Path.{at_of, lv_of};
 ghost use Rattle.lvm_session.specs.Judging.{group_of};
 
 use crate::standing::group_of;

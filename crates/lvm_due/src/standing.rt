@@ -3,7 +3,7 @@ ghost use Rattle.std.specs.Prelude.{◌≡◌, ◌||◌, ◌<◌, ◌^◌, ◌++
 ghost use Rattle.std.specs.Option.{option_map_or};
 ghost use Rattle.lvm_num.specs.declared.place.Pp.{Pp};
 ghost use Rattle.lvm_num.specs.Descriptor.{IsValid, is_size};
-ghost use Rattle.lvm_session.specs.passed.Names.{at_of};
+ghost use Rattle.lvm_session.specs.passed.Path.{at_of};
 ghost use Rattle.lvm_session.specs.Bringing.{is_whole};
 ghost use Rattle.lvm_session.specs.Fields.{core_of};
 ghost use Rattle.lvm_session.specs.Judging.{IsWithinVolume, copies_for, group_in, group_of, is_beside_copy, is_caught, is_missing, is_running, is_settled, is_stale, is_sure, is_usable, is_wanted_stale, lp_of, mode_of, destination_aims, destinations_for, policy_of, pps_of, same_pps};

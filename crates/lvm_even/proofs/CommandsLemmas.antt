@@ -24,8 +24,8 @@ use Rattle.lvm_kept.specs.Committed.{IsWithinDisks}
 use Rattle.lvm_kept.specs.Changes.{Serves}
 use Rattle.lvm_kept.specs.Torn.{StatusesChange}
 use Rattle.lvm_kept.proofs.CommittedLemmas.Finding.{finding_reads}
-use Rattle.lvm_commit.proofs.passed.Names.{clash, serving, put_keeps, member_of_parts}
-use Rattle.lvm_commit.specs.passed.Names.{VolumeIsServed}
+use Rattle.lvm_commit.proofs.passed.Steps.{clash, serving, put_keeps, member_of_parts}
+use Rattle.lvm_commit.specs.passed.Steps.{VolumeIsServed}
 use Rattle.lvm_commit.specs.Committed.{ShowsCommitted}
 use Rattle.lvm_commit.specs.Laws.{IsLaterStatus}
 use Rattle.lvm_commit.proofs.LawsOfDataLemmas.Free.{none_stands}

@@ -6,7 +6,7 @@ use Rattle.lvm_num.specs.declared.descriptor.LvRow.{LvRow}
 use Rattle.lvm_num.specs.declared.descriptor.Descriptor.{Descriptor}
 use Rattle.lvm_num.specs.Descriptor.{IsValid, is_size, volume_of}
 use Rattle.lvm_kept.specs.Group.{IsOneOf}
-pub use Rattle.lvm_commit.proofs.passed.Names.{at_passing, some_passing, none_passing, passes_none}
+pub use Rattle.lvm_commit.proofs.passed.Steps.{at_passing, some_passing, none_passing, passes_none}
 
 less : (r : LvRow) (rows : List LvRow) (row : LvRow) → ((j : ℕ) (d : LvRow) → j < length rows → r.number < (slice_index_or rows j d).number) → IsOneOf rows row → r.number < row.number
 less r [] row rise one = absurd one

@@ -16,7 +16,7 @@ use Rattle.lvm_kept.specs.Group.{is_stale_by, fresh_on, block_at, IsBlockOf, IsO
 use Rattle.lvm_kept.specs.Committed.{IsWithinDisks}
 use Rattle.lvm_kept.specs.Kept.{Kept}
 use Rattle.lvm_kept.specs.Torn.{StatusesChange}
-use Rattle.lvm_commit.specs.passed.Names.{VolumeIsServed}
+use Rattle.lvm_commit.specs.passed.Steps.{VolumeIsServed}
 use Rattle.lvm_commit.specs.Committed.{ShowsCommitted}
 use Rattle.lvm_commit.specs.Laws.{IsLaterStatus}
 use Rattle.lvm_even.specs.Members.{members_showing}

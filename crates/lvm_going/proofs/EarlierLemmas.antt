@@ -4,7 +4,7 @@ use Rattle.std.specs.Prelude.{count_by, unwrap_or}
 use Rattle.std.specs.List.{list_any, AllByRecursion}
 use Rattle.std.proofs.lemmas.Bool.{eq-eqb, ne_eqb}
 use Rattle.lvm_disk.specs.Device.{Flight}
-use Rattle.lvm_disk.proofs.passed.Names.{all_weaker, all_at}
+use Rattle.lvm_disk.proofs.passed.Num.{all_weaker, all_at}
 use Rattle.lvm_vol.specs.Facts.{Fact}
 use Rattle.lvm_vol.specs.Legal.{begins_in}
 use Rattle.lvm_vol.specs.Log.{is_answered, is_open, no_request, request_of, taken_fact, with_fact}

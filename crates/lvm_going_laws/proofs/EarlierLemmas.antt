@@ -6,7 +6,7 @@ use Rattle.std.proofs.lemmas.Bool.{ne_eqb, and_right}
 use Rattle.std.proofs.lemmas.List.Folds.{list_any-append}
 use Rattle.lvm_disk.specs.Device.{Flight, image_of}
 use Rattle.lvm_disk.proofs.CountingLemmas.{none_falls_at_once}
-use Rattle.lvm_disk.proofs.passed.Names.{all_at}
+use Rattle.lvm_disk.proofs.passed.Num.{all_at}
 use Rattle.lvm_kept.specs.Contents.{contents_of}
 use Rattle.lvm_vol.specs.Facts.{Request, Fact, Begun, Taken, Cut, IsInList, joined, same_request}
 use Rattle.lvm_vol.specs.Legal.{Fits, Legal, TakenOnce, lands, takes}

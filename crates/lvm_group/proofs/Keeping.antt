@@ -52,8 +52,12 @@ use Rattle.lvm_kept.proofs.CommittedLemmas.Finding.{finding_reads, finds_from}
 use Rattle.lvm_num.specs.Votes.{all_disks, votes_in}
 use Rattle.lvm_num.proofs.VotesLemmas.{more_have_more, more_is_enough}
 use Rattle.lvm_status.specs.Update.{Updates}
-use Rattle.lvm_group.specs.passed.Names.{Room, ShowsCommitted, HoldsCommitted, NotesAreHome, StartsHeld, Parts, IsReservedFor, first_core, Core, is_there}
-use Rattle.lvm_group.proofs.passed.Names.{shown_is_only, empty_names_none}
+use Rattle.lvm_group.specs.passed.Core.{Room, NotesAreHome, StartsHeld, IsReservedFor}
+use Rattle.lvm_group.specs.passed.Commit.{ShowsCommitted, HoldsCommitted}
+use Rattle.lvm_group.specs.passed.SessionStart.{Parts, first_core}
+use Rattle.lvm_group.specs.passed.Session.{Core, is_there}
+use Rattle.lvm_group.proofs.passed.Commit.{shown_is_only}
+use Rattle.lvm_group.proofs.passed.Core.{empty_names_none}
 use Rattle.lvm_group.specs.NewGroup.{NewGroup, among, sectors_on, size_for, member_for, new_group, new_status, first_absent, first_too_small}
 use Rattle.lvm_group.specs.Shown.{IfShown, HasGroup, ShowsEarlier, SparesTold}
 use Rattle.lvm_group.specs.Made.{beginning_for}

@@ -12,8 +12,8 @@ use Rattle.lvm_kept.specs.Moments.{Moment, StaysCalm}
 use Rattle.lvm_steps.specs.Moments.{Keeps}
 use Rattle.lvm_steps.specs.Requests.{at}
 use Rattle.lvm_steps.proofs.EnteringLemmas.{quiet_goes_on, calm_goes_on}
-use Rattle.lvm_group.specs.passed.Names.{HaveAllLanded}
-use Rattle.lvm_group.proofs.passed.Names.{landed_still}
+use Rattle.lvm_group.specs.passed.Core.{HaveAllLanded}
+use Rattle.lvm_group.proofs.passed.Core.{landed_still}
 use Rattle.lvm_steps.proofs.LawsLemmas.Clock.{later_joins}
 use Rattle.lvm_group.specs.NewGroup.{given_up}
 

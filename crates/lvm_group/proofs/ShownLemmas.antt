@@ -21,7 +21,7 @@ use Rattle.lvm_transfer.specs.Reading.{IsUntouched}
 use Rattle.lvm_rec.specs.declared.homes.Homes.{Homes}
 use Rattle.lvm_write.specs.Homes.{SparesNewest, SpareNewest}
 use Rattle.lvm_quorum.proofs.SurveyedLemmas.SurveyRows.{descriptor_shown, status_shown, descriptor_past, status_past}
-use Rattle.lvm_group.specs.passed.Names.{Cause}
+use Rattle.lvm_group.specs.passed.Core.{Cause}
 use Rattle.lvm_group.specs.passed.CoreRefusedCause as cause
 use Rattle.lvm_group.specs.Shown.{IfShown, HasGroup, ShowsMoment, ShowsEarlier, IsLastShown, IsUnread, AllRead, SparesTold}
 use Rattle.lvm_group.specs.Judged.{IsFirstFailed, NoneFailed, LetsBegin, RefusesShown}

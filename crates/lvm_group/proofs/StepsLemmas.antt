@@ -28,7 +28,8 @@ use Rattle.lvm_write.proofs.PartsLemmas.Transfers.{spends_then}
 use Rattle.lvm_write.specs.Beginning.{Beginning, new_beginning, new_order, IsOfParts, AllStand}
 use Rattle.lvm_write.specs.Ends.{BothFlip}
 use Rattle.lvm_write.specs.Kept.{NewStaysKept}
-use Rattle.lvm_group.specs.passed.Names.{Room, Cause, BringsOn, StartsHeld, Parts, IsReservedFor, first_core}
+use Rattle.lvm_group.specs.passed.Core.{Room, Cause, BringsOn, StartsHeld, IsReservedFor}
+use Rattle.lvm_group.specs.passed.SessionStart.{Parts, first_core}
 use Rattle.lvm_group.specs.NewGroup.{NewGroup, among, sectors_on, size_for, new_group, new_status, given_up, first_absent, first_too_small, MayMakeGroup}
 use Rattle.lvm_group.specs.Shown.{IfShown, HasGroup, ShowsEarlier, SparesTold}
 use Rattle.lvm_group.specs.Planned.{IsPlanned}

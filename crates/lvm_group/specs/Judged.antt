@@ -6,7 +6,7 @@ use Rattle.lvm_num.specs.declared.status.Status.{Status}
 use Rattle.lvm_quorum.specs.declared.row.SurveyRow.{SurveyRow}
 use Rattle.lvm_quorum.specs.declared.row.Survey.{Survey}
 use Rattle.lvm_quorum.specs.Surveyed.{surveyed}
-use Rattle.lvm_group.specs.passed.Names.{Cause}
+use Rattle.lvm_group.specs.passed.Core.{Cause}
 use Rattle.lvm_group.specs.passed.CoreRefusedCause as cause
 use Rattle.lvm_group.specs.Shown.{HasGroup, ShowsEarlier, IsLastShown}
 

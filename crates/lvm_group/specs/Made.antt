@@ -11,7 +11,9 @@ use Rattle.lvm_write.specs.Written.{LogsPlan, IsDarkened, IsGivenUp}
 use Rattle.lvm_transfer.specs.Reading.{IsUnwritten, IsRested, IsCutOff, IsReadStuck}
 use Rattle.lvm_write.specs.Beginning.{Beginning, Part, new_beginning, new_order, IsOfParts, AllStand}
 use Rattle.lvm_write.specs.Ends.{BothFlip, HasNoFault, IsLowestFailed, WasTriedOnTargets}
-use Rattle.lvm_group.specs.passed.Names.{Room, Cause, Refused, Parts, IsReservedFor, first_core, Core}
+use Rattle.lvm_group.specs.passed.Core.{Room, Cause, Refused, IsReservedFor}
+use Rattle.lvm_group.specs.passed.SessionStart.{Parts, first_core}
+use Rattle.lvm_group.specs.passed.Session.{Core}
 use Rattle.lvm_group.specs.passed.CoreRefusedCause as cause
 use Rattle.lvm_group.specs.NewGroup.{NewGroup, among, new_group, new_status, given_up, MayMakeGroup, RefusesFirst}
 use Rattle.lvm_group.specs.Shown.{IfShown, HasGroup, IsClockBehindDisks, IsUnread, AllRead, AreFree, IsClear, SparesTold}

@@ -5,7 +5,8 @@ use Rattle.lvm_num.specs.Status.{IsValidStatus}
 use Rattle.lvm_num.specs.DescriptorBytes.{descriptor_bytes}
 use Rattle.lvm_num.specs.StatusBytes.{status_bytes}
 use Rattle.lvm_num.specs.Disks.{has}
-use Rattle.lvm_core.specs.passed.Names.{Choice, IsOneGroup}
+use Rattle.lvm_core.specs.passed.Quorum.{Choice}
+use Rattle.lvm_core.specs.passed.SessionStart.{IsOneGroup}
 use Rattle.lvm_core.specs.declared.parts.Room.{Room}
 use Rattle.lvm_core.specs.declared.refused.Cause.{Cause}
 use Rattle.lvm_core.specs.declared.refused.Cause.TheVariants as cause

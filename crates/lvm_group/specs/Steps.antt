@@ -9,7 +9,8 @@ use Rattle.lvm_write.specs.Written.{IsDarkened, IsGivenUp}
 use Rattle.lvm_transfer.specs.Reading.{IsUnwritten, IsRested, IsCutOff, IsReadStuck}
 use Rattle.lvm_write.specs.Beginning.{Beginning, new_order, IsOfParts, AllStand}
 use Rattle.lvm_write.specs.Ends.{BothFlip, HasNoFault, StopsAt, IsLowestFailed, WasTriedOnTargets}
-use Rattle.lvm_group.specs.passed.Names.{Cause, Room, Parts, IsReservedFor}
+use Rattle.lvm_group.specs.passed.Core.{Cause, Room, IsReservedFor}
+use Rattle.lvm_group.specs.passed.SessionStart.{Parts}
 use Rattle.lvm_group.specs.passed.CoreRefusedCause as cause
 use Rattle.lvm_group.specs.declared.look.Free.{Free}
 use Rattle.lvm_group.specs.declared.make.Asked.{Asked}

@@ -1,2 +1,5 @@
+pub mod Commit
+pub mod Core
 pub mod CoreRefusedCause
-pub mod Names
+pub mod Session
+pub mod SessionStart

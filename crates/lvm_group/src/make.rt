@@ -3,7 +3,8 @@ ghost use Rattle.std.specs.Prelude.{◌≡◌, ◌≢◌, ◌≤◌, length, IfO
 ghost use Rattle.lvm_disk.specs.Device.{IsReady};
 ghost use Rattle.lvm_vol.specs.Log.{spare_entries};
 ghost use Rattle.lvm_steps.specs.Behind.{ClockIsAhead};
-ghost use Rattle.lvm_group.specs.passed.Names.{BringsOn, StartsHeld, HaveAllLanded, IsRoom, first_core};
+ghost use Rattle.lvm_group.specs.passed.Core.{BringsOn, StartsHeld, HaveAllLanded, IsRoom};
+ghost use Rattle.lvm_group.specs.passed.SessionStart.{first_core};
 ghost use Rattle.lvm_group.specs.NewGroup.{IsWellFormed, given_up};
 ghost use Rattle.lvm_group.specs.Planned.{IsPlannedFor, RefusesPlan};
 ghost use Rattle.lvm_group.specs.Made.{MkvgRefuses};

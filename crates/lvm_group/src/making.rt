@@ -1,7 +1,8 @@
 //! The making of a group.
 ghost use Rattle.std.specs.Prelude.{IfOk};
 ghost use Rattle.lvm_disk.specs.Device.{IsReady};
-ghost use Rattle.lvm_group.specs.passed.Names.{AreFaults, HaveAllLanded, IsRoom, state_of, BringsOn, IsStarted, shelf_left, history_left};
+ghost use Rattle.lvm_group.specs.passed.SessionStart.{AreFaults};
+ghost use Rattle.lvm_group.specs.passed.Core.{HaveAllLanded, IsRoom, state_of, BringsOn, IsStarted, shelf_left, history_left};
 ghost use Rattle.lvm_group.specs.Made.{MkvgGives};
 ghost use Rattle.lvm_group.specs.NewGroup.{IsWellFormed};
 

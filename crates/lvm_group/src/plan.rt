@@ -5,7 +5,7 @@ ghost use Rattle.lvm_num.specs.Descriptor.{IsValid, is_size};
 ghost use Rattle.lvm_num.specs.Disks.{has};
 ghost use Rattle.lvm_num.specs.Status.{IsValidStatus};
 ghost use Rattle.lvm_core.specs.Starting.{IsRoom};
-ghost use Rattle.lvm_core.specs.passed.Names.{IsOneGroup};
+ghost use Rattle.lvm_core.specs.passed.SessionStart.{IsOneGroup};
 ghost use Rattle.lvm_group.specs.NewGroup.{among, member_for, clear_row, disks_in_order, descriptor_for, first_absent};
 ghost use Rattle.lvm_group.specs.Planned.{CanBeMade, IsChoiceFor, IsPlanOf, IsPlanned};
 

@@ -26,7 +26,7 @@ use Rattle.lvm_session.specs.State.{Core, state}
 use Rattle.lvm_group_lines.specs.passed.Handover.{Serves}
 use Rattle.lvm_group_lines.specs.passed.TieCommands.{StandsAfter}
 use Rattle.lvm_group_lines.proofs.passed.TieCommands.{spans_follow}
-use Rattle.lvm_group_lines.specs.passed.Names.{Post, AreAnswered}
+use Rattle.lvm_group_lines.specs.passed.Posts.{Post, AreAnswered}
 use Rattle.lvm_group_lines.specs.passed.Quiesce.{ClockIsAheadEach, IsAheadEach, BringsOnEach, IsStartedEach}
 use Rattle.lvm_group_lines.proofs.passed.Quiesce.{still_is_behind_each}
 use Rattle.lvm_group_lines.specs.Groups.{IsHeldBy, IsLeftBy}

@@ -13,7 +13,7 @@ use Rattle.lvm_session.specs.Calls.{is_asked}
 use Rattle.lvm_session.specs.Dark.{all_dark, ended_as, landings}
 use Rattle.lvm_session.specs.Judging.{is_waiting}
 use Rattle.lvm_session.specs.State.{Core}
-use Rattle.lvm_group_lines.specs.passed.Names.{Asked, AreAnswered, AreHeld}
+use Rattle.lvm_group_lines.specs.passed.Posts.{Asked, AreAnswered, AreHeld}
 use Rattle.lvm_group_lines.specs.State.{log_with}
 use Rattle.lvm_group_lines.proofs.FactsLemmas.{bears_cut}
 use Rattle.lvm_group_lines.proofs.StateLemmas.{answered_bears, answered_on}

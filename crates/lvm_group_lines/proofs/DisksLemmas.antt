@@ -14,7 +14,7 @@ use Rattle.lvm_raw.specs.declared.fault.RawFault.{RawFault}
 use Rattle.lvm_raw.specs.declared.fault.RawFault.TheVariants as fault
 use Rattle.lvm_group_lines.specs.passed.Quiesce.{IsBehindEach, RangeKeepsEach}
 use Rattle.lvm_group_lines.proofs.passed.Quiesce.{still_is_behind_each}
-use Rattle.lvm_group_lines.specs.passed.Names.{Post}
+use Rattle.lvm_group_lines.specs.passed.Posts.{Post}
 use Rattle.lvm_group_lines.specs.Disks.{ShowsRead, blocks_text, refusal_by, write_reply}
 use Rattle.lvm_group_lines.specs.Ends.{EndsUnasked}
 use Rattle.lvm_group_lines.specs.Moments.{Aside, LineGoesOn}

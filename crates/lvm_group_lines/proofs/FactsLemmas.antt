@@ -9,7 +9,7 @@ use Rattle.lvm_vol.specs.Facts.{Fact, Request, Removed, Cut, begun, begun_by}
 use Rattle.lvm_vol.specs.Log.{Log, asked, has_id, is_open, lands_id, is_uncut, cut_log}
 use Rattle.lvm_vol.specs.Legal.{IsLater}
 use Rattle.lvm_steps.proofs.LawsLemmas.Clock.{later_joins}
-use Rattle.lvm_quiesce.specs.passed.Names.{HaveAllLanded}
+use Rattle.lvm_quiesce.specs.passed.Core.{HaveAllLanded}
 use Rattle.lvm_group_lines.specs.State.{log_with}
 
 -- no request is open that wasn't

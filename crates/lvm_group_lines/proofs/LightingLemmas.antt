@@ -13,7 +13,7 @@ use Rattle.lvm_session.specs.Sound.{HasPower}
 use Rattle.lvm_tie_commands.specs.passed.Tie.{LeavesDescriptors}
 use Rattle.lvm_quiesce.specs.Behind.{IsBehindEach}
 use Rattle.lvm_quiesce.proofs.LawsLemmas.Behind.{still_is_behind_each}
-use Rattle.lvm_quiesce.specs.passed.Names.{Cause}
+use Rattle.lvm_quiesce.specs.passed.Core.{Cause}
 use Rattle.lvm_quiesce.specs.passed.CoreRefusedCause as cause
 use Rattle.lvm_group_lines.specs.Lighting.{IsRelit, refusal_of}
 use Rattle.lvm_group_lines.specs.Replies.{IsStuck}

@@ -13,7 +13,7 @@ use Rattle.lvm_transfer.specs.declared.moves.Moved.{Moved}
 use Rattle.lvm_transfer.specs.declared.moves.Moved.TheVariants as moved
 use Rattle.lvm_raw.specs.OnePiece.{WritesPiece, ReadsPiece}
 use Rattle.lvm_raw.specs.Requests.{write_ends, read_ends}
-use Rattle.lvm_group_lines.specs.passed.Names.{Asked, AreAnswered}
+use Rattle.lvm_group_lines.specs.passed.Posts.{Asked, AreAnswered}
 use Rattle.lvm_raw.specs.declared.fault.RawFault.{RawFault}
 use Rattle.lvm_raw.specs.declared.fault.RawFault.TheVariants as fault
 use Rattle.lvm_raw.specs.Looking.{look_ends}

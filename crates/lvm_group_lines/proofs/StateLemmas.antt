@@ -18,7 +18,7 @@ use Rattle.lvm_session.specs.declared.open.Open.{Open}
 use Rattle.lvm_session.specs.Sound.{IsAsked}
 use Rattle.lvm_session.specs.State.{Core}
 use Rattle.lvm_tie_commands.specs.passed.Handover.{AreGone}
-use Rattle.lvm_tie_commands.specs.passed.Names.{Asked, Post, AreAnswered, AreHeld, ended_with}
+use Rattle.lvm_tie_commands.specs.passed.Posts.{Asked, Post, AreAnswered, AreHeld, ended_with}
 use Rattle.lvm_group_lines.specs.State.{ArePosted, IsPosted}
 use Rattle.lvm_group_lines.proofs.FactsLemmas.{Bears}
 

@@ -1,11 +1,13 @@
+pub mod Core
 pub mod Group
 pub mod Handover
-pub mod Names
+pub mod KeepsEvents
+pub mod Members
+pub mod Posts
 pub mod Quiesce
 pub mod Ranges
 pub mod Splitting
+pub mod Tie
 pub mod TieCommands
 pub mod Varyon
 pub mod Volumes
-pub mod Tie
-pub mod Members

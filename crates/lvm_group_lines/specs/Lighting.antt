@@ -2,7 +2,7 @@
 use Rattle.std.specs.Prelude.{◌≡◌}
 use Rattle.lvm_disk.specs.Device.{Device}
 use Rattle.lvm_transfer.specs.Transfer.{Relights}
-use Rattle.lvm_quiesce.specs.passed.Names.{Cause}
+use Rattle.lvm_quiesce.specs.passed.Core.{Cause}
 use Rattle.lvm_quiesce.specs.passed.CoreRefusedCause as cause
 use Rattle.lvm_group_lines.specs.declared.reply.Refusal.{Refusal}
 use Rattle.lvm_group_lines.specs.declared.reply.Refusal.TheVariants as refusal

@@ -5,8 +5,8 @@ use Rattle.lvm_kept.specs.Moments.{Moment}
 use Rattle.lvm_vol.specs.Facts.{Fact}
 use Rattle.lvm_steps.specs.Moments.{ImagesKept, Keeps}
 use Rattle.lvm_steps.specs.Behind.{IsAhead}
-use Rattle.lvm_tie_commands.specs.passed.Names.{IsOneFoundOn}
-use Rattle.lvm_quiesce.specs.passed.Names.{IsHeld, EntersVolumes, IsSettled as IsSettledCore}
+use Rattle.lvm_tie_commands.specs.passed.Commit.{IsOneFoundOn}
+use Rattle.lvm_quiesce.specs.passed.Core.{IsHeld, EntersVolumes, IsSettled as IsSettledCore}
 use Rattle.lvm_session.specs.State.{Core}
 use Rattle.lvm_group_lines.specs.State.{ScriptState, IsAtRest, IsBetween, IsTimely, StandsAlone, StandsBy}
 use Rattle.lvm_group_lines.specs.Replies.{IsStuck, most_refusals}

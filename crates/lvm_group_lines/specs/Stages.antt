@@ -11,7 +11,7 @@ use Rattle.lvm_session.specs.Dark.{after_arrange}
 use Rattle.lvm_session.specs.declared.open.Power.{Power}
 use Rattle.lvm_session.specs.declared.open.Power.TheVariants as power
 use Rattle.lvm_session.specs.State.{Core, votes_there}
-use Rattle.lvm_tie_commands.specs.passed.Names.{Post, ended_with}
+use Rattle.lvm_tie_commands.specs.passed.Posts.{Post, ended_with}
 use Rattle.lvm_group_lines.specs.State.{ScriptState, IsBetween}
 use Rattle.lvm_group_lines.specs.Replies.{is_unheard}
 use Rattle.lvm_group_lines.specs.declared.holder.Holder.{Holder}

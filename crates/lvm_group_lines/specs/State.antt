@@ -5,13 +5,14 @@ use Rattle.lvm_vol.specs.Facts.{Fact}
 pub use Rattle.lvm_vol.specs.Log.{log_with, without_facts}
 use Rattle.lvm_kept.specs.Moments.{Moment}
 use Rattle.lvm_steps.specs.Moments.{RunBegins}
-use Rattle.lvm_tie_commands.specs.passed.Names.{IsOneFoundOn, Post, IsLaidOut, AreAnswered, AreHeld}
+use Rattle.lvm_tie_commands.specs.passed.Commit.{IsOneFoundOn}
+use Rattle.lvm_tie_commands.specs.passed.Posts.{Post, IsLaidOut, AreAnswered, AreHeld}
 use Rattle.lvm_status.specs.Members.{HasItsRows}
 use Rattle.lvm_session.specs.declared.open.Power.TheVariants as power
 use Rattle.lvm_session.specs.State.{Core, state}
 use Rattle.lvm_session.specs.Sound.{HasPower, IsSound}
 use Rattle.lvm_tie_commands.specs.passed.Tie.{LeavesDescriptors, IsStamped}
-use Rattle.lvm_quiesce.specs.passed.Names.{HaveAllLanded, IsSettled as IsSettledCore}
+use Rattle.lvm_quiesce.specs.passed.Core.{HaveAllLanded, IsSettled as IsSettledCore}
 use Rattle.lvm_quiesce.specs.Behind.{IsAheadEach}
 use Rattle.lvm_tie_commands.specs.passed.Handover.{AreGone}
 use Rattle.lvm_tie_commands.specs.Standing.{StandsAfter}

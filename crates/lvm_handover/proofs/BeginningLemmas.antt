@@ -29,7 +29,7 @@ use Rattle.lvm_session_start.specs.Beginning.{first_core}
 use Rattle.lvm_session_start.specs.Parts.{IsReserved}
 use Rattle.lvm_keeps.specs.Begins.{SessionBegins, HasFirstStatus, IsUnused}
 use Rattle.lvm_keeps.proofs.BeginsLemmas.{beginning_is_sound}
-use Rattle.lvm_handover.specs.passed.Names.{session_room_of}
+use Rattle.lvm_handover.specs.passed.Core.{session_room_of}
 use Rattle.lvm_group.specs.NewGroup.{given_up, new_group, new_status}
 use Rattle.lvm_handover.specs.passed.Going.{IsStamped}
 use Rattle.lvm_handover.specs.Beginning.{HasJustBegun, IsHistory, MadeBegins, Serves, VariedOnBegins}

@@ -15,7 +15,7 @@ use Rattle.lvm_session.specs.Dark.{hand_of_copy}
 use Rattle.lvm_session.specs.Owners.{AreRows}
 use Rattle.lvm_session.specs.Placed.{ArePlaced}
 use Rattle.lvm_session.specs.Sound.{IsSound, count_if, has_number, hands_with, is_dark, is_hand, out_with, waits}
-use Rattle.lvm_handover.specs.passed.Names.{HaveAllLanded, HasNoneOpen, IsFittingAtRest, IsSoundAtRest}
+use Rattle.lvm_handover.specs.passed.Core.{HaveAllLanded, HasNoneOpen, IsFittingAtRest, IsSoundAtRest}
 
 -- where no transfer is the session's, none is out
 none_out : (core : Core) (rows : List Flown) (flights : List Flight) → AreRows core rows flights → rows ≡ [] → flights ≡ []

@@ -1,6 +1,9 @@
-pub mod Group
-pub mod Names
-pub mod Ranges
+pub mod Core
 pub mod Going
+pub mod Group
+pub mod KeepsEvents
+pub mod Posts
+pub mod Ranges
+pub mod Tidying
 pub mod Varyon
 pub mod Volumes

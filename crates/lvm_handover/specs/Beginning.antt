@@ -8,7 +8,7 @@ use Rattle.lvm_commit.specs.Settling.{NoneIsLeft}
 use Rattle.lvm_session.specs.State.{State}
 use Rattle.lvm_session.specs.Sound.{IsSound}
 use Rattle.lvm_session_start.specs.Beginning.{AreFaults}
-use Rattle.lvm_handover.specs.passed.Names.{Room, IsSettled, IsSoundAtRest}
+use Rattle.lvm_handover.specs.passed.Core.{Room, IsSettled, IsSoundAtRest}
 use Rattle.lvm_varyon.specs.Varied.{ComesOn}
 use Rattle.lvm_group.specs.Made.{IsMade}
 use Rattle.lvm_group.specs.NewGroup.{NewGroup}

@@ -5,7 +5,7 @@ use Rattle.lvm_session.specs.declared.open.Power.TheVariants as power
 use Rattle.lvm_session.specs.Calls.{is_asked}
 use Rattle.lvm_session.specs.Sound.{IsSound}
 use Rattle.lvm_session.specs.State.{Core, State, state}
-use Rattle.lvm_ranges.specs.passed.Names.{Asked, AreAnswered, takings}
+use Rattle.lvm_ranges.specs.passed.Posts.{Asked, AreAnswered, takings}
 use Rattle.lvm_ranges.specs.passed.Tie.{RunsOn}
 
 -- none of its pieces is a request of the table

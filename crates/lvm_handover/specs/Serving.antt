@@ -20,8 +20,8 @@ use Rattle.lvm_session.specs.Left.{updates_left}
 use Rattle.lvm_session.specs.Marks.{is_among}
 use Rattle.lvm_session.specs.Placed.{ArePlaced}
 use Rattle.lvm_session.specs.Sound.{IsSound}
-use Rattle.lvm_handover.specs.passed.Names.{Leaves, Scope, IsSettled, IsSoundAtRest}
-use Rattle.lvm_volumes.specs.passed.Names.{GroupFault, NewVolume, IfOn}
+use Rattle.lvm_handover.specs.passed.Core.{Leaves, Scope, IsSettled, IsSoundAtRest}
+use Rattle.lvm_volumes.specs.passed.VolumePlan.{GroupFault, NewVolume, IfOn}
 use Rattle.lvm_volumes.specs.Endings.{HasFresh, KeepsFresh, StillHeld}
 use Rattle.lvm_volumes.specs.Volumes.{MklvGives, RmlvGives, to_make, to_remove}
 

@@ -2,7 +2,7 @@
 use Rattle.std.specs.Prelude.{◌≡◌, ◌≢◌, []}
 use Rattle.lvm_session.specs.State.{State}
 use Rattle.lvm_session.specs.Sound.{IsSound}
-use Rattle.lvm_handover.specs.passed.Names.{HasNoneOpen, HasNothingUnderWay}
+use Rattle.lvm_handover.specs.passed.Core.{HasNoneOpen, HasNothingUnderWay}
 use Rattle.lvm_handover.specs.passed.Driver.{IsDrained}
 
 -- Nothing is left to be made of it, neither a request nor a copy is open, and the epoch of its stamps is some moment.

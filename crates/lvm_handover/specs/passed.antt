@@ -1,9 +1,12 @@
 pub mod AskRangeFaultVariants
+pub mod Core
 pub mod Driver
-pub mod Group
-pub mod Names
-pub mod Ranges
 pub mod Going
+pub mod Group
+pub mod KeepsEvents
+pub mod Posts
+pub mod Ranges
 pub mod Varyon
+pub mod VolumePlan
 pub mod VolumePlanFaultGroupFault
 pub mod Volumes

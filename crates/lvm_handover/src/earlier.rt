@@ -3,7 +3,7 @@ ghost use Rattle.std.specs.Prelude.{◌≡◌, false};
 ghost use Rattle.lvm_session.specs.Fields.{core_of};
 ghost use Rattle.lvm_session.specs.Judging.{is_moving};
 ghost use Rattle.lvm_session.specs.Rooms.{HasRooms};
-ghost use Rattle.lvm_ranges.specs.passed.Names.{RangeEnds, IsLaidOut, AreAnswered};
+ghost use Rattle.lvm_ranges.specs.passed.Posts.{RangeEnds, IsLaidOut, AreAnswered};
 ghost use Rattle.lvm_handover.specs.Earlier.{AreGone, with_taken};
 
 use lvm_disk::Shelf;

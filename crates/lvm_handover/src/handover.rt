@@ -4,7 +4,7 @@ ghost use Rattle.lvm_status.specs.Calls.{IsMarkable};
 ghost use Rattle.lvm_status.specs.Members.{HasItsRows};
 ghost use Rattle.lvm_session.specs.State.{state};
 ghost use Rattle.lvm_session.specs.Sound.{IsSound};
-ghost use Rattle.lvm_handover.specs.passed.Names.{IsSettled, IsSoundAtRest};
+ghost use Rattle.lvm_handover.specs.passed.Core.{IsSettled, IsSoundAtRest};
 ghost use Rattle.lvm_handover.specs.Settling.{MayHandOver};
 ghost use Rattle.lvm_handover.specs.Serving.{OriginIsMarked, MarksAdded, MarksMissing, MayServe};
 

@@ -7,7 +7,7 @@ use Rattle.std.proofs.lemmas.Bool.{eq-eqb, ne_eqb, lt-ltb, cases_eq}
 use Rattle.std.proofs.lemmas.Bool.Decides.{nat_tests}
 use Rattle.std.proofs.lemmas.List.Folds.{list_any-append}
 use Rattle.lvm_vol.specs.declared.entry.Outcome.{Outcome}
-use Rattle.lvm_vol.proofs.passed.Names.{or_false}
+use Rattle.lvm_vol.proofs.passed.Num.{or_false}
 use Rattle.lvm_history.specs.passed.Vol.{Log, Fact, Entry, plain_fact, is_open, awaited, is_answered, asked, request_of, lands_id, takes_id}
 use Rattle.lvm_history.proofs.passed.Vol.{and_left}
 use Rattle.lvm_history.specs.passed.VolEntryEntry as entry

@@ -8,7 +8,8 @@ use Rattle.lvm_num.specs.declared.status.Status.{Status}
 use Rattle.lvm_num.specs.Status.{calls_stale, calls_missing}
 use Rattle.lvm_num.proofs.Booleans.{not_so}
 use Rattle.lvm_num.proofs.Lists.{none_out, all_of_none, if_none, any_as}
-use Rattle.lvm_session.specs.passed.Names.{Flight, HasItsRows}
+use Rattle.lvm_session.specs.passed.Disk.{Flight}
+use Rattle.lvm_session.specs.passed.Status.{HasItsRows}
 use Rattle.lvm_mwc.specs.Entries.{pins_of}
 use Rattle.lvm_mwc.specs.declared.entries.CacheEntry.{CacheEntry}
 use Rattle.lvm_session.specs.declared.bringing.OpenCopy.{OpenCopy}

@@ -15,7 +15,7 @@ use Rattle.lvm_path.specs.declared.target.Target.{Target}
 use Rattle.lvm_path.specs.Asks.{is_write}
 use Rattle.lvm_path.specs.Targets.{is_done, is_begun, states_of}
 use Rattle.lvm_path.specs.Next.{next_in, next_chosen, next_data, next_read, next_write, start_or_wait}
-use Rattle.lvm_path.specs.passed.Names.{is_flying, is_waiting as is_unstarted, next_target}
+use Rattle.lvm_path.specs.passed.Sched.{is_flying, is_waiting as is_unstarted, next_target}
 use Rattle.lvm_session.specs.Enabled.{is_pin}
 
 -- ---- a pin

@@ -14,7 +14,7 @@ use Rattle.lvm_num.proofs.Lists.{all_weaker}
 use Rattle.lvm_vol.specs.declared.entry.Outcome.{Outcome}
 use Rattle.lvm_vol.specs.declared.entry.Outcome.TheVariants as outcome
 use Rattle.lvm_vol.specs.Log.{Log, next_id}
-use Rattle.lvm_session.specs.passed.Names.{Waiting}
+use Rattle.lvm_session.specs.passed.Hold.{Waiting}
 use Rattle.lvm_mwc.specs.declared.entries.CacheEntry.{CacheEntry}
 use Rattle.lvm_status.specs.Update.{Stored}
 use Rattle.lvm_path.specs.declared.ask.Ask.{Ask}

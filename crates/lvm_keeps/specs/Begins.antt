@@ -6,7 +6,7 @@ use Rattle.lvm_vol.specs.Order.{Ordered}
 use Rattle.lvm_mwc.specs.Cache.{flight_on}
 use Rattle.lvm_num.specs.Disks.{has}
 use Rattle.lvm_num.specs.declared.place.Pp.{Pp}
-use Rattle.lvm_session.specs.passed.Names.{members_there, seen, IsSoundStatus}
+use Rattle.lvm_session.specs.passed.Status.{members_there, seen, IsSoundStatus}
 use Rattle.lvm_session.specs.declared.open.Power.TheVariants as power
 use Rattle.lvm_session.specs.State.{Core, State}
 use Rattle.lvm_session.specs.Marks.{is_entailed}

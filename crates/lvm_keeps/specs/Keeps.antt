@@ -1,7 +1,7 @@
 -- Each event of a sound session leaves it sound.
 use Rattle.std.specs.Prelude.{◌≡◌, ◌≤◌, ◌||◌, true, false, ℕ, Bool, List, length, Option, Some, Result, slice_get}
 use Rattle.lvm_num.specs.declared.place.Pp.{Pp}
-use Rattle.lvm_session.specs.passed.Names.{Arrange}
+use Rattle.lvm_session.specs.passed.Disk.{Arrange}
 use Rattle.lvm_vol.specs.declared.entry.Outcome.{Outcome}
 use Rattle.lvm_session.specs.declared.open.Power.TheVariants as power
 use Rattle.lvm_session.specs.State.{Core, State, state}

@@ -1,2 +1,4 @@
-pub mod Names
+pub mod Pbuf
+pub mod Rec
+pub mod Session
 pub mod SessionOpenPower

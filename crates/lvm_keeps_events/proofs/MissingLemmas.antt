@@ -11,7 +11,7 @@ use Rattle.lvm_num.specs.Status.{calls_stale}
 use Rattle.lvm_num.proofs.BitsLemmas.{has-none}
 use Rattle.lvm_num.proofs.Booleans.{not_so, not_either}
 use Rattle.lvm_kept.specs.Examples.{member, mirror}
-use Rattle.lvm_kept.specs.passed.Names.{Begun}
+use Rattle.lvm_kept.specs.passed.Vol.{Begun}
 use Rattle.lvm_path.specs.declared.target.Target.{Target}
 use Rattle.lvm_status.specs.Runs.{IsSoundStatus}
 use Rattle.lvm_status.specs.Update.{seen}

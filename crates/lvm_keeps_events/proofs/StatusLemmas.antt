@@ -13,7 +13,7 @@ use Rattle.lvm_session.specs.Ends.{LosesDisk}
 use Rattle.lvm_session.specs.Events.{PutsInFlight}
 use Rattle.lvm_session.specs.Marks.{WantsDirty, WantsFresh, WantsStale}
 use Rattle.lvm_session.specs.Turns.{SaysTheSame}
-use Rattle.lvm_keeps_events.proofs.passed.Names.{both}
+use Rattle.lvm_keeps_events.proofs.passed.Keeps.{both}
 
 -- the status in flight, or else the committed one
 abbrev pub flown : Stored → Status

@@ -1,6 +1,6 @@
 -- The worked groups, by computing.
 use Rattle.std.proofs.Common.{◌≡◌, inl, inr, refl, ap, arith, ℕ, Option, Some, None}
-use Rattle.lvm_disk.specs.passed.Names.{has_bit, votes_by, newest_below}
+use Rattle.lvm_disk.specs.passed.Num.{has_bit, votes_by, newest_below}
 use Rattle.lvm_vol.specs.Standing.{Shape}
 use Rattle.lvm_kept.specs.Group.{descriptor_among, is_voter, has_quorum, status_among}
 use Rattle.lvm_kept.specs.Examples.{FreshThree, SecondAway, StaleCopy, NamedDifference, HalfMade}

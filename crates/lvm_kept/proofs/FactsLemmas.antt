@@ -1,6 +1,6 @@
 -- What the images that a shelf may leave show of a read of a raw disk.
 use Rattle.std.proofs.Common.{◌≡◌, ◌+◌, ◌-◌, ◌<◌, ◌≤◌, ◌∷◌, [], ℕ, zero, suc, List, Option, Some, None, false, length, take, slice_get, slice_index_or, IfSome, refl, sym, ◌∙◌, ap, arith}
-use Rattle.lvm_disk.specs.passed.Names.{Buffer, Sector}
+use Rattle.lvm_disk.specs.passed.Num.{Buffer, Sector}
 use Rattle.lvm_disk.specs.Device.{Media, Image, Flight, Device, MayLeave}
 use Rattle.lvm_disk.specs.Steps.{BothTold, Puts, ReadsRange, IsRange}
 use Rattle.lvm_vol.specs.Facts.{block_of}

@@ -1,6 +1,6 @@
 -- What is found of descriptors stays under other statuses, other notes and other data.
 use Rattle.std.proofs.Common.{◌≡◌, ℕ, Option, refl, sym, ◌∙◌}
-use Rattle.lvm_disk.specs.passed.Names.{Descriptor, Status, Disks, Sector, Noted, Stamped}
+use Rattle.lvm_disk.specs.passed.Num.{Descriptor, Status, Disks, Sector, Noted, Stamped}
 use Rattle.lvm_kept.specs.Contents.{Contents}
 use Rattle.lvm_kept.specs.Group.{descriptor_among, has_quorum, is_voter, Finds}
 

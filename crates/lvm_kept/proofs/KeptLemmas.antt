@@ -1,6 +1,6 @@
 -- What is kept of blocks is kept under other descriptors and other statuses, over the same data and notes.
 use Rattle.std.proofs.Common.{inl, inr, ⊎_elim, ℕ, List, [], ◌∷◌, ◌++◌, Option}
-use Rattle.lvm_disk.specs.passed.Names.{Pp, Mode, LvRow, Descriptor, Status, Disks, Stamped}
+use Rattle.lvm_disk.specs.passed.Num.{Pp, Mode, LvRow, Descriptor, Status, Disks, Stamped}
 use Rattle.lvm_disk.specs.passed.NumDescriptorMode.{Active, Passive, Off}
 use Rattle.lvm_vol.specs.declared.entry.Vol.TheVariants.{Lv}
 use Rattle.lvm_vol.specs.Facts.{Fact, Cut}

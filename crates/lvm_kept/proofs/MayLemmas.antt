@@ -1,6 +1,6 @@
 -- What one block may have while a request goes through.
 use Rattle.std.proofs.Common.{◌≡◌, inl, inr, ◌||◌, ◌∷◌, ◌++◌, [], ℕ, List, Bool, Option, Some, None, true, not, cond, sym, ◌∙◌, ap, map, IfSome}
-use Rattle.lvm_disk.specs.passed.Names.{Sector}
+use Rattle.lvm_disk.specs.passed.Num.{Sector}
 use Rattle.lvm_vol.specs.declared.entry.Vol.{Vol}
 use Rattle.lvm_vol.specs.Facts.{Request, Fact, IsInList, block_of}
 use Rattle.lvm_vol.specs.May.{Knowledge, known, nothing_known, change, source, also, is_open_in, without}

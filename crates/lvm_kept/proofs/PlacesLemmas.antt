@@ -2,10 +2,10 @@
 use Rattle.std.proofs.Common.{◌≡◌, ℕ, ◌+◌, ◌<◌, ◌≤◌, ◌&&◌, Bool, true, false, List, [], None, Result, refl, ap, arith}
 use Rattle.std.proofs.lemmas.Bool.Decides.{nat_tests}
 use Rattle.std.specs.Prelude.{nat_le, nat_lt, if◌then◌else◌}
-use Rattle.lvm_disk.specs.passed.Names.{Kind, data_start, sector_of, slot_start, slot_size, newer, Sectors, descriptor_of, status_of, note_in}
+use Rattle.lvm_disk.specs.passed.Num.{Kind, data_start, sector_of, slot_start, slot_size, newer, Sectors, descriptor_of, status_of, note_in}
 use Rattle.lvm_disk.specs.passed.NumRecordKind as kind
 use Rattle.lvm_rec.specs.Slots.{held, slot_of, newest_on}
-use Rattle.lvm_disk.proofs.passed.Names.{joined-same}
+use Rattle.lvm_disk.proofs.passed.Num.{joined-same}
 use Rattle.lvm_disk.specs.Device.{Image, SameDisks}
 use Rattle.lvm_kept.specs.Contents.{has_records, newest_at, descriptor_on, status_on, note_on, note_sector, data_at}
 use Rattle.lvm_kept.specs.Places.{SameRecords, DataWritesKeepRecords, RecordWritesKeepData, BlocksAreSectors}

@@ -1,7 +1,7 @@
 -- Writes that are under way, step by step.
 use Rattle.std.proofs.Common.{◌≡◌, ◌⊎◌, inl, inr, ⊎_elim, ℕ, List, [], ◌∷◌, ◌++◌, Option, Some, refl, sym, ◌∙◌, ap, subst}
 use Rattle.std.specs.Prelude.{IsSomeAnd}
-use Rattle.lvm_disk.specs.passed.Names.{Sector}
+use Rattle.lvm_disk.specs.passed.Num.{Sector}
 use Rattle.lvm_disk.specs.Device.{Media, Image, Flight, Device, SameDisks, IsInFlight, IsCrashImage, image_of, MayLeave}
 use Rattle.lvm_disk.specs.Steps.{Removes, Cuts, with_order, Arranges}
 use Rattle.lvm_disk.specs.Paths.{DeviceStep, Started, WasCut, Ended, Broke, Waited, Freed, Lit, Arranged}

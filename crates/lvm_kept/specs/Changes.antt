@@ -1,7 +1,7 @@
 -- Which changes of what the disks show keep the history, and which entries do.
 use Rattle.std.specs.Prelude.{◌≡◌, ◌⊎◌, ℕ, ◌<◌, ◌≤◌, List, ◌∷◌, [], ◌++◌, Option, None, Some, IsTrue, is_some, true}
 use Rattle.std.specs.List.{AllByRecursion}
-use Rattle.lvm_disk.specs.passed.Names.{Pp, LvRow, Descriptor, Status, Sector, zero_sector, Disks, data_start, volume_of, all_disks, Stamped, stamp_lt}
+use Rattle.lvm_disk.specs.passed.Num.{Pp, LvRow, Descriptor, Status, Sector, zero_sector, Disks, data_start, volume_of, all_disks, Stamped, stamp_lt}
 use Rattle.lvm_vol.specs.declared.entry.Vol.{Vol}
 use Rattle.lvm_vol.specs.declared.entry.Vol.TheVariants.{Disk, Lv}
 use Rattle.lvm_vol.specs.Facts.{Request, Fact, Begun, Cut}

@@ -1,6 +1,6 @@
 -- What a quorum finds while a record of a group is being written, and after.
 use Rattle.std.specs.Prelude.{◌≡◌, ◌⊎◌, ℕ, ◌<◌, ◌≤◌, Bool, true, length, Option, Some, IsTrue}
-use Rattle.lvm_disk.specs.passed.Names.{Descriptor, Status, Disks, Stamped, stamp_lt, all_disks, CanWrite}
+use Rattle.lvm_disk.specs.passed.Num.{Descriptor, Status, Disks, Stamped, stamp_lt, all_disks, CanWrite}
 use Rattle.lvm_disk.specs.Device.{Image}
 use Rattle.lvm_kept.specs.Contents.{Contents, contents_of}
 use Rattle.lvm_kept.specs.Group.{is_of, is_status_of, is_voter, status_among, Finds, IsFound, IsOneFound, IsOnlyGroup}

@@ -1,6 +1,6 @@
 -- What the disks of an image show: the records of each, and its data.
 use Rattle.std.specs.Prelude.{ℕ, Bool, ◌&&◌, nat_le, nat_lt, if◌then◌else◌, List, [], Option, None, Result}
-use Rattle.lvm_disk.specs.passed.Names.{Descriptor, Status, Kind, Sector, descriptor_of, data_start, status_of, Stamped, Noted, note_in}
+use Rattle.lvm_disk.specs.passed.Num.{Descriptor, Status, Kind, Sector, descriptor_of, data_start, status_of, Stamped, Noted, note_in}
 use Rattle.lvm_disk.specs.passed.NumRecordKind as kind
 use Rattle.lvm_rec.specs.Slots.{newest_on}
 use Rattle.lvm_disk.specs.Device.{Image}

@@ -1,6 +1,6 @@
 -- Small groups, worked by hand: what the definitions say of them.
 use Rattle.std.specs.Prelude.{◌≡◌, ℕ, Bool, true, false, not, ◌==◌, if◌then◌else◌, List, [], ◌∷◌, replicate, Option, Some, None}
-use Rattle.lvm_disk.specs.passed.Names.{Mode, PvRow, LvRow, Descriptor, StatusRow, Status, Sector, zero_sector, Disks, all_disks, Stamped, Noted}
+use Rattle.lvm_disk.specs.passed.Num.{Mode, PvRow, LvRow, Descriptor, StatusRow, Status, Sector, zero_sector, Disks, all_disks, Stamped, Noted}
 use Rattle.lvm_disk.specs.passed.NumDescriptorMode as mode
 use Rattle.lvm_disk.specs.passed.NumDescriptorPolicy as policy
 use Rattle.lvm_vol.specs.Standing.{Absent, Open, Settled}

@@ -1,8 +1,8 @@
 -- What a set of disks says of a group: its descriptor, its voters, its status, and which copies are fresh.
 use Rattle.std.specs.Prelude.{◌≡◌, ◌⊎◌, ℕ, ◌<◌, Bool, false, ◌&&◌, not, nat_le, ◌==◌, if◌then◌else◌, List, [], ◌∷◌, Option, Some, None, IsTrue, filter}
 use Rattle.std.specs.List.{list_any, AllByRecursion}
-pub use Rattle.lvm_disk.specs.passed.Names.{IsOneOf}
-use Rattle.lvm_disk.specs.passed.Names.{Pp, LvRow, Descriptor, Status, Sector, Disks, partition_of, sector_of, sectors_needed, copies_of, all_disks, votes_in, is_enough_to_read, CanRead, Stamped, newest_below, calls_stale, calls_dirty, Noted, names}
+pub use Rattle.lvm_disk.specs.passed.Num.{IsOneOf}
+use Rattle.lvm_disk.specs.passed.Num.{Pp, LvRow, Descriptor, Status, Sector, Disks, partition_of, sector_of, sectors_needed, copies_of, all_disks, votes_in, is_enough_to_read, CanRead, Stamped, newest_below, calls_stale, calls_dirty, Noted, names}
 use Rattle.lvm_kept.specs.Contents.{Contents}
 
 -- the record, if its value passes

@@ -1,7 +1,7 @@
 -- When what the disks show agrees with a history.
 use Rattle.std.specs.Prelude.{◌≡◌, ◌⊎◌, ℕ, ◌<◌, ◌≤◌, List, [], ◌∷◌, ◌++◌, Option, Some, None, IsTrue, is_some}
 use Rattle.std.specs.List.{AllByRecursion}
-use Rattle.lvm_disk.specs.passed.Names.{Mode, Pp, PvRow, LvRow, Descriptor, Status, Disks, data_start, volume_blocks, track_group_of, member_of, volume_of, all_disks, Stamped}
+use Rattle.lvm_disk.specs.passed.Num.{Mode, Pp, PvRow, LvRow, Descriptor, Status, Disks, data_start, volume_blocks, track_group_of, member_of, volume_of, all_disks, Stamped}
 use Rattle.lvm_disk.specs.passed.NumDescriptorMode.{Active, Passive, Off}
 use Rattle.lvm_vol.specs.declared.entry.Vol.TheVariants.{Disk, Lv}
 use Rattle.lvm_vol.specs.Facts.{Fact, Cut}

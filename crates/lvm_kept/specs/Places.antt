@@ -1,6 +1,6 @@
 -- Which sectors say what.
 use Rattle.std.specs.Prelude.{◌≡◌, ℕ, ◌<◌, ◌≤◌}
-use Rattle.lvm_disk.specs.passed.Names.{Pp, data_start, sector_of}
+use Rattle.lvm_disk.specs.passed.Num.{Pp, data_start, sector_of}
 use Rattle.lvm_disk.specs.Device.{Image, SameDisks}
 use Rattle.lvm_kept.specs.Contents.{data_at, contents_of}
 use Rattle.lvm_kept.specs.Group.{block_at}

@@ -1,6 +1,6 @@
 -- Writes that are under way, as the values that they may bring to each sector.
 use Rattle.std.specs.Prelude.{◌≡◌, ◌⊎◌, ℕ, Some}
-use Rattle.lvm_disk.specs.passed.Names.{Sector}
+use Rattle.lvm_disk.specs.passed.Num.{Sector}
 use Rattle.lvm_disk.specs.Device.{Image, Flight, Device, SameDisks, written, IsInFlight, MayLeave}
 use Rattle.lvm_disk.specs.Paths.{DeviceStep, Started}
 

@@ -1,6 +1,6 @@
 -- Disks that are in no group, and requests on them.
 use Rattle.std.specs.Prelude.{◌≡◌, ◌<◌, ◌≤◌, ◌++◌, ◌∷◌, ◌+◌, ℕ, Bool, true, false, List, [], Some, None, count_by}
-use Rattle.lvm_disk.specs.passed.Names.{data_start}
+use Rattle.lvm_disk.specs.passed.Num.{data_start}
 use Rattle.lvm_disk.specs.Device.{Image, Flight, Device, written, MayLeave}
 use Rattle.lvm_disk.specs.Images.{DiffersBy}
 use Rattle.lvm_vol.specs.declared.entry.Vol.TheVariants.{Disk}

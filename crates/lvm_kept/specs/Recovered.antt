@@ -1,7 +1,7 @@
 -- What a varyon leaves.
 use Rattle.std.specs.Prelude.{◌≡◌, ◌⊎◌, ◌↔◌, ℕ, ◌+◌, ◌%◌, ◌<◌, ◌≤◌, List, [], ◌∷◌, None, Some, IsTrue, IsFalse, option_map, is_some}
 use Rattle.std.specs.List.{AllByRecursion}
-use Rattle.lvm_disk.specs.passed.Names.{Mode, Pp, PvRow, LvRow, Descriptor, Status, Kind, Disks, data_start, partition_blocks, track_group_of, sector_of, member_of, copies_of, Stamped, slot_start, slot_size, calls_stale, calls_missing, calls_dirty}
+use Rattle.lvm_disk.specs.passed.Num.{Mode, Pp, PvRow, LvRow, Descriptor, Status, Kind, Disks, data_start, partition_blocks, track_group_of, sector_of, member_of, copies_of, Stamped, slot_start, slot_size, calls_stale, calls_missing, calls_dirty}
 use Rattle.lvm_disk.specs.passed.NumDescriptorMode.{Active, Passive, Off}
 use Rattle.lvm_disk.specs.passed.NumRecordKind as kind
 use Rattle.lvm_vol.specs.Facts.{Fact}

@@ -1,6 +1,6 @@
 -- What a write of a record to some disks may leave, and what the disks then show.
 use Rattle.std.specs.Prelude.{◌≡◌, ◌⊎◌, ℕ, ◌+◌, ◌<◌, ◌≤◌, true, if◌then◌else◌, List, length, Option, Some, None, Result, IsTrue}
-use Rattle.lvm_disk.specs.passed.Names.{Stamp, Framed, Descriptor, Status, Kind, Buffer, Sector, zero_sector, Disks, descriptor_of, status_of, Noted, note_in, Frames, Stamped, frame, record_sectors, slot_start, slot_size, stamp_lt, Sectors, AllBefore}
+use Rattle.lvm_disk.specs.passed.Num.{Stamp, Framed, Descriptor, Status, Kind, Buffer, Sector, zero_sector, Disks, descriptor_of, status_of, Noted, note_in, Frames, Stamped, frame, record_sectors, slot_start, slot_size, stamp_lt, Sectors, AllBefore}
 use Rattle.lvm_disk.specs.passed.NumRecordKind as kind
 use Rattle.lvm_rec.specs.Slots.{SlotWrite, IsOfSlot, StandsIn, MayWrite, BothBefore}
 use Rattle.lvm_disk.specs.Device.{Media, Image, Device, image_of, written as flown, IsInFlight, MayLeave}

@@ -1,4 +1,6 @@
+pub mod Disk
 pub mod DiskShelfArrange
-pub mod Names
+pub mod Rec
+pub mod Vol
 pub mod VolEntryOutcome
 pub mod VolEntryVol

@@ -13,7 +13,7 @@ use Rattle.lvm_core.specs.Looking.{IsNumberOf}
 use Rattle.lvm_session.specs.Causes.{AnyFailedSince, was_usable}
 use Rattle.lvm_session.specs.Judging.{copies_in, is_missing}
 use Rattle.lvm_session.specs.State.{Core, State, state}
-use Rattle.lvm_volume_lines.specs.passed.Names.{LostForFaults}
+use Rattle.lvm_volume_lines.specs.passed.KeepsEvents.{LostForFaults}
 use Rattle.lvm_num.specs.Descriptor.{is_member}
 use Rattle.lvm_disk.specs.Device.{Device}
 use Rattle.lvm_volume_lines.specs.passed.Varyon.{IsRecovered}

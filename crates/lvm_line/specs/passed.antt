@@ -1,9 +1,9 @@
 pub mod Group
 pub mod GroupLines
 pub mod HolderVariants
+pub mod KeepsEvents
 pub mod Members
 pub mod MoveLines
-pub mod Names
 pub mod Quiesce
 pub mod QuiescedVariants
 pub mod RangeLines
@@ -18,4 +18,5 @@ pub mod Tie
 pub mod TieCommands
 pub mod Varyon
 pub mod VolumeLines
+pub mod VolumePlan
 pub mod Volumes

@@ -22,7 +22,7 @@ use Rattle.lvm_session.specs.Dark.{landings}
 use Rattle.lvm_session.specs.Judging.{is_waiting}
 use Rattle.lvm_session.specs.State.{Core, State}
 use Rattle.lvm_session.specs.Turns.{Darkens, FinishMakes, Finishes, GoesOff, Makes, Moves, NoStart, OnMakes, TurnMakes, WasDark, WasOff, WasOn}
-use Rattle.lvm_driver.proofs.passed.Names.{ends_history}
+use Rattle.lvm_driver.proofs.passed.Going.{ends_history}
 use Rattle.lvm_workers.specs.Draws.{draw_at}
 use Rattle.lvm_load.specs.declared.client.Client.{Client}
 use Rattle.lvm_load.specs.declared.totals.Kind.TheVariants as kind

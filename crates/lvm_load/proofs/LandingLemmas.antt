@@ -50,7 +50,8 @@ use Rattle.lvm_keeps.proofs.KeepsLemmas.Losing.{loss_is_caused}
 use Rattle.lvm_going.specs.Frames.{GoesOnOrEnds, KeepsShape}
 use Rattle.lvm_going.specs.Going.{AnyStep, ClosesCopy, MakesTurn, OpensCopy, Orders, RunStep, Runs, Submits, Takes, TakesEarlier, IsAny, LeavesSession}
 use Rattle.lvm_going.proofs.GoingLemmas.{path_keeps, path_shape, step_shape}
-use Rattle.lvm_driver.proofs.passed.Names.{ends_history, leaves_both, leaves_none, turn_leaves_table}
+use Rattle.lvm_driver.proofs.passed.Going.{ends_history, leaves_both, leaves_none}
+use Rattle.lvm_driver.proofs.passed.KeepsEvents.{turn_leaves_table}
 use Rattle.lvm_ranges.proofs.CallsLemmas.{opened_so, refused_for}
 use Rattle.lvm_load.specs.declared.totals.Kind.{Kind}
 use Rattle.lvm_load.specs.declared.totals.Kind.TheVariants as kind

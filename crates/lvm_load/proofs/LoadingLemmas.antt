@@ -11,7 +11,7 @@ use Rattle.lvm_turn.specs.Calls.{Continues, IsIdlePass}
 use Rattle.lvm_turn.specs.Views.{Client, Standing, View, counted, renewed, up_to}
 use Rattle.lvm_turn.proofs.CallsLemmas.Idle.{idle_all}
 use Rattle.lvm_session.specs.declared.open.Power.TheVariants as power
-use Rattle.lvm_driver.specs.passed.Names.{is_moving}
+use Rattle.lvm_driver.specs.passed.Going.{is_moving}
 use Rattle.lvm_session.specs.Sound.{IsSound}
 use Rattle.lvm_session.specs.State.{State}
 use Rattle.lvm_workers.specs.declared.bring.Brought.{Brought}

@@ -25,8 +25,8 @@ use Rattle.lvm_session.specs.Judging.{copies_for, is_changed, is_waiting, destin
 use Rattle.lvm_session.specs.Left.{begun_left, copy_left, if_so, is_held, lacks_dirty, left_by, left_of, phase_left, read_left, request_left, status_left, place_turns, turns_of, update_work, work_left}
 use Rattle.lvm_session.specs.State.{Core, State, is_there}
 use Rattle.lvm_session.specs.Turns.{Finds, FindsNothing}
-use Rattle.lvm_driver.specs.passed.Names.{RunsOn}
-use Rattle.lvm_driver.proofs.passed.Names.{path_frames, runs_both, runs_none, stays_unstuck}
+use Rattle.lvm_driver.specs.passed.Going.{RunsOn}
+use Rattle.lvm_driver.proofs.passed.Going.{path_frames, runs_both, runs_none, stays_unstuck}
 use Rattle.lvm_keeps_events.specs.Telling.{TurnTells}
 use Rattle.lvm_load.specs.declared.client.Client.{Client}
 use Rattle.lvm_load.specs.Weaving.{NextClient, NoClient, NoneOpen, Takes, TakesFor, TakesEach, Turns, Waits, idle_after, turns_left}

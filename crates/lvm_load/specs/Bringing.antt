@@ -3,8 +3,8 @@ use Rattle.std.specs.Prelude.{◌≡◌, ◌&&◌, ◌+◌, ◌/◌, ◌%◌, �
 use Rattle.std.specs.List.{list_any}
 use Rattle.lvm_num.specs.Votes.{total_votes}
 use Rattle.lvm_keeps_events.specs.Telling.{TurnTells}
-use Rattle.lvm_keeps_events.specs.passed.Names.{counts_seen}
-use Rattle.lvm_driver.specs.passed.Names.{LeavesSession, RunsOn}
+use Rattle.lvm_keeps_events.specs.passed.Calls.{counts_seen}
+use Rattle.lvm_driver.specs.passed.Going.{LeavesSession, RunsOn}
 use Rattle.lvm_workers.specs.declared.bring.Brought.{Brought}
 use Rattle.lvm_workers.specs.declared.bring.Brought.TheVariants as brought
 use Rattle.lvm_session.specs.declared.answers.Turned.{Turned}

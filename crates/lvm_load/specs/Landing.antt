@@ -12,7 +12,7 @@ use Rattle.lvm_session.specs.Causes.{AnyFailedSince, was_usable}
 use Rattle.lvm_session.specs.Judging.{IsWithinVolume, copies_for}
 use Rattle.lvm_session.specs.Sound.{IsSound}
 use Rattle.lvm_session.specs.State.{Core, State}
-use Rattle.lvm_driver.specs.passed.Names.{LeavesSession}
+use Rattle.lvm_driver.specs.passed.Going.{LeavesSession}
 use Rattle.lvm_load.specs.declared.totals.Totals.{Totals}
 use Rattle.lvm_load.specs.Totals.{entries_since, totals_of}
 

@@ -19,7 +19,7 @@ use Rattle.lvm_session.specs.Sound.{IsSound, count_if, is_dark}
 use Rattle.lvm_session.specs.State.{Core, State}
 use Rattle.lvm_session.specs.Turns.{TurnMakes}
 use Rattle.lvm_driver.specs.Showing.{counts_of, fixed_by}
-use Rattle.lvm_driver.specs.passed.Names.{LeavesSession, is_moving}
+use Rattle.lvm_driver.specs.passed.Going.{LeavesSession, is_moving}
 use Rattle.lvm_workers.specs.declared.service.Asked.{Asked}
 use Rattle.lvm_workers.specs.declared.service.Asked.TheVariants as asked
 use Rattle.lvm_workers.specs.declared.service.Seen.{Seen}

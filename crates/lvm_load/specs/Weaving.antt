@@ -16,7 +16,7 @@ use Rattle.lvm_session.specs.Sound.{IsSound}
 use Rattle.lvm_session.specs.State.{Core, State}
 use Rattle.lvm_session.specs.Turns.{TurnMakes}
 use Rattle.lvm_keeps_events.specs.Turning.{is_last}
-use Rattle.lvm_driver.specs.passed.Names.{is_moving}
+use Rattle.lvm_driver.specs.passed.Going.{is_moving}
 use Rattle.lvm_load.specs.declared.client.Client.{Client}
 use Rattle.lvm_load.specs.Requests.{ask_of, bytes_of, word_of}
 

@@ -3,7 +3,7 @@ ghost use Rattle.std.specs.Prelude.{◌≡◌, ◌≤◌, ◌<◌, ◌+◌, ◌-
 ghost use Rattle.std.specs.Option.{option_map_or};
 ghost use Rattle.lvm_session.specs.declared.open.Power.TheVariants as power;
 ghost use Rattle.lvm_keeps_events.specs.Turning.{is_last};
-ghost use Rattle.lvm_driver.specs.passed.Names.{RunsOn, is_moving};
+ghost use Rattle.lvm_driver.specs.passed.Going.{RunsOn, is_moving};
 ghost use Rattle.lvm_session.specs.State.{state_of};
 ghost use Rattle.lvm_workers.specs.Draws.{after_draw};
 ghost use Rattle.lvm_load.specs.Waiting.{AreWaiting, AreWaitingBut, OthersWait, landed_by};

@@ -1,6 +1,6 @@
 //! A load: workers that share a session.
 ghost use Rattle.std.specs.Prelude.{◌≡◌, ◌≤◌, IfSome, false, vec_capacity};
-ghost use Rattle.lvm_driver.specs.passed.Names.{is_moving};
+ghost use Rattle.lvm_driver.specs.passed.Going.{is_moving};
 ghost use Rattle.lvm_session.specs.declared.open.Power.TheVariants as power;
 ghost use Rattle.lvm_session.specs.State.{state_of};
 ghost use Rattle.lvm_load.specs.Lending.{IsServing};

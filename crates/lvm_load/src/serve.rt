@@ -1,6 +1,6 @@
 //! A load, from its workers to its totals.
 ghost use Rattle.std.specs.Prelude.{◌≡◌, ◌≤◌, None, true, false, IfNone, IfSome, vec_capacity};
-ghost use Rattle.lvm_driver.specs.passed.Names.{RunsOn, is_moving};
+ghost use Rattle.lvm_driver.specs.passed.Going.{RunsOn, is_moving};
 ghost use Rattle.lvm_session.specs.declared.open.Power.TheVariants as power;
 ghost use Rattle.lvm_session.specs.State.{state_of};
 ghost use Rattle.lvm_load.specs.Lending.{KeepsServing};

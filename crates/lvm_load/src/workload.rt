@@ -2,7 +2,7 @@
 ghost use Rattle.std.specs.Prelude.{◌≡◌, ◌≤◌, ◌<◌, false, length, vec_capacity};
 ghost use Rattle.std.specs.List.{list_any};
 ghost use Rattle.lvm_session.specs.declared.open.Power.TheVariants as power;
-ghost use Rattle.lvm_driver.specs.passed.Names.{RunsOn, is_moving};
+ghost use Rattle.lvm_driver.specs.passed.Going.{RunsOn, is_moving};
 ghost use Rattle.lvm_session.specs.State.{state_of};
 ghost use Rattle.lvm_load.specs.Ends.{HasCauses};
 ghost use Rattle.lvm_load.specs.Totals.{entries_since, totals_of};

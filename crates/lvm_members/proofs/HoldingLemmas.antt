@@ -5,7 +5,7 @@ use Rattle.lvm_num.specs.Buffer.{Sector}
 use Rattle.lvm_num.specs.declared.descriptor.LvRow.{LvRow}
 use Rattle.lvm_num.specs.declared.descriptor.Descriptor.{Descriptor}
 use Rattle.lvm_num.specs.Descriptor.{is_member, volume_of}
-use Rattle.lvm_status.specs.passed.Names.{IsLeftIn}
+use Rattle.lvm_status.specs.passed.Status.{IsLeftIn}
 use Rattle.lvm_write.specs.Written.{KeepsShelf}
 use Rattle.lvm_commit.specs.LawsOfVolumes.{IsOnlyGroupOn}
 use Rattle.lvm_commit.specs.Settling.{there, MarksLeft, NoneIsLeft}

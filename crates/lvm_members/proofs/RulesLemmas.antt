@@ -10,7 +10,7 @@ use Rattle.lvm_kept.specs.Contents.{contents_of}
 use Rattle.lvm_kept.specs.Group.{IsOneOf}
 use Rattle.lvm_num.specs.Descriptor.{volume_of}
 use Rattle.lvm_status.specs.Update.{members_there}
-use Rattle.lvm_commit.specs.passed.Names.{SpanGoesOn}
+use Rattle.lvm_commit.specs.passed.Steps.{SpanGoesOn}
 use Rattle.lvm_kept.specs.Moments.{Moment}
 use Rattle.lvm_commit.specs.LawsOfVolumes.{VolumesServe}
 use Rattle.lvm_commit.specs.Settling.{there}

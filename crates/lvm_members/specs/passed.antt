@@ -1,1 +1,3 @@
-pub mod Names
+pub mod Change
+pub mod ChangeLaws
+pub mod Turnover

@@ -37,7 +37,7 @@ use Rattle.lvm_session.specs.Judging.{copies_in, is_move_done}
 use Rattle.lvm_session.specs.Sound.{IsSound}
 use Rattle.lvm_session.specs.State.{Core, State, votes_there}
 use Rattle.lvm_due.proofs.DescriptorLemmas.Members.{few_in}
-use Rattle.lvm_keeps_events.specs.passed.Names.{counts_seen, faults_seen}
+use Rattle.lvm_keeps_events.specs.passed.Calls.{counts_seen, faults_seen}
 use Rattle.lvm_keeps_events.proofs.OpeningLemmas.Opening.{at_place, counted_at, last_count}
 use Rattle.lvm_going.specs.Going.{CommitsOpenMove, closed_after}
 use Rattle.lvm_going.proofs.FramesLemmas.{turn_frame}

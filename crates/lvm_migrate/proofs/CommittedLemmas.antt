@@ -19,7 +19,7 @@ use Rattle.lvm_moved.specs.Moved.{MayStandOn}
 use Rattle.lvm_session.specs.declared.open.Power.TheVariants as power
 use Rattle.lvm_session.specs.Calls.{OpensMove}
 use Rattle.lvm_session.specs.State.{Core, State}
-use Rattle.lvm_keeps_events.specs.passed.Names.{counts_seen}
+use Rattle.lvm_keeps_events.specs.passed.Calls.{counts_seen}
 use Rattle.lvm_going.specs.Going.{CommitsOpenMove}
 use Rattle.lvm_going.specs.Moves.{next_of}
 use Rattle.lvm_going.proofs.FramesLemmas.{moved_next}

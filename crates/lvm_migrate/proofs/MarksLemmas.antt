@@ -35,7 +35,7 @@ use Rattle.lvm_session.specs.State.{Core, State}
 use Rattle.lvm_session.specs.Turns.{TurnMakes}
 use Rattle.lvm_keeps_events.specs.Losing.{HasFailedOn}
 use Rattle.lvm_keeps_events.specs.Losses.{MarksFor, has_failed_on, is_marked}
-use Rattle.lvm_keeps_events.specs.passed.Names.{counts_seen}
+use Rattle.lvm_keeps_events.specs.passed.Calls.{counts_seen}
 use Rattle.lvm_keeps_events.proofs.CountsLemmas.{turn_counts}
 use Rattle.lvm_keeps_events.proofs.LosingLemmas.Losing.{turn_loses}
 use Rattle.lvm_keeps_events.proofs.LossesLemmas.Turning.{turn_marks}

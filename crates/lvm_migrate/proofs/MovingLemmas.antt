@@ -21,7 +21,7 @@ use Rattle.lvm_session.specs.Calls.{OpenMoveGives, OpensMove, closed, copy_state
 use Rattle.lvm_session.specs.Judging.{is_move_done, is_moving}
 use Rattle.lvm_session.specs.Sound.{IsSound}
 use Rattle.lvm_session.specs.State.{Core, State, state, votes_there}
-use Rattle.lvm_keeps_events.specs.passed.Names.{counts_seen}
+use Rattle.lvm_keeps_events.specs.passed.Calls.{counts_seen}
 use Rattle.lvm_going.specs.Going.{CommitsOpenMove, LeavesMoving, RunsOn}
 use Rattle.lvm_driver.specs.Answers.{IsCopyCaused}
 use Rattle.lvm_driver.specs.Drains.{DrainCosts, DrainEnds, FailsSo, IsAny, IsDrained, IsTurn}

@@ -10,7 +10,7 @@ use Rattle.lvm_core.specs.declared.fault.CommitFault.{CommitFault}
 use Rattle.lvm_session.specs.declared.open.Power.TheVariants as power
 use Rattle.lvm_session.specs.Sound.{IsSound}
 use Rattle.lvm_session.specs.State.{Core, State}
-use Rattle.lvm_keeps_events.specs.passed.Names.{counts_seen}
+use Rattle.lvm_keeps_events.specs.passed.Calls.{counts_seen}
 use Rattle.lvm_going.specs.Going.{LeavesMoving, RunsOn}
 use Rattle.lvm_going.specs.Moves.{next_of}
 use Rattle.lvm_going.proofs.FramesLemmas.{moved_next}

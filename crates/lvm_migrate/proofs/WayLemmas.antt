@@ -28,7 +28,7 @@ use Rattle.lvm_session.specs.Sound.{IsSound}
 use Rattle.lvm_session.specs.State.{Core, State, state}
 use Rattle.lvm_keeps_events.specs.Losing.{HasFailedOn, LosesByFaults}
 use Rattle.lvm_keeps_events.specs.Opening.{IsApart}
-use Rattle.lvm_keeps_events.specs.passed.Names.{counts_seen}
+use Rattle.lvm_keeps_events.specs.passed.Calls.{counts_seen}
 use Rattle.lvm_keeps_events.proofs.LosingLemmas.Losing.{loses_both, loses_none, turn_loses}
 use Rattle.lvm_keeps_events.proofs.CountsLemmas.{turn_counts}
 use Rattle.lvm_keeps_events.proofs.TurningLemmas.{turn_keeps}

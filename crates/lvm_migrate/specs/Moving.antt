@@ -11,7 +11,7 @@ use Rattle.lvm_session.specs.State.{Core, State, state, votes_there}
 use Rattle.lvm_core.specs.declared.fault.CommitFault.{CommitFault}
 use Rattle.lvm_core.specs.declared.fault.CommitFault.TheVariants as commit
 use Rattle.lvm_going.specs.Going.{CommitsOpenMove}
-use Rattle.lvm_keeps_events.specs.passed.Names.{counts_seen}
+use Rattle.lvm_keeps_events.specs.passed.Calls.{counts_seen}
 use Rattle.lvm_driver.specs.Answers.{IsCopyCaused}
 use Rattle.lvm_driver.specs.Drains.{DrainCosts, DrainEnds, IsAny, IsDrained, IsTurn}
 use Rattle.lvm_session.specs.Judging.{is_moving}

@@ -1,6 +1,6 @@
 //! The descriptor of a move is committed, beside requests that wait for it.
 ghost use Rattle.std.specs.Prelude.{◌≡◌, ◌≤◌, false, None, length, replicate};
-ghost use Rattle.lvm_session.specs.passed.Names.{IsOut};
+ghost use Rattle.lvm_session.specs.passed.Pbuf.{IsOut};
 ghost use Rattle.lvm_calls.specs.Reviewing.{MayReview};
 ghost use Rattle.lvm_commit.specs.Settling.{IfBack, IsContentOf, MayCommit};
 ghost use Rattle.lvm_core.specs.Committing.{with_one_out};

@@ -15,7 +15,7 @@ use Rattle.lvm_migrate.specs.declared.fault.MoveFault.{MoveFault}
 use Rattle.lvm_migrate.specs.declared.fault.MoveFault.TheVariants as fault
 use Rattle.lvm_migrate.specs.Migrating.{GoesBesideMoving, IsLeftShut}
 use Rattle.lvm_range_lines.specs.Leaving.{FailsIf, serving}
-use Rattle.lvm_range_lines.specs.passed.Names.{Post}
+use Rattle.lvm_range_lines.specs.passed.Posts.{Post}
 use Rattle.lvm_range_lines.specs.passed.HolderVariants as holder
 use Rattle.lvm_range_lines.specs.passed.GroupLines.{ArePosted, ComesTo, EndsUnasked, HaveRooms, IsBetweenStage, IsCarriedOn, IsFittingStage, OfRequests, Reply, ScriptState, SessionIsClosed, Stage, is_unheard, most_refusals, patience_of_line, state_in, without_facts}
 use Rattle.lvm_range_lines.specs.passed.RefusalVariants as refusal

@@ -19,7 +19,7 @@ use Rattle.lvm_session.specs.Judging.{group_in, is_beside_copy, is_caught, is_mi
 use Rattle.lvm_session.specs.Bringing.{end_of, end_by_sources, ends_if, is_cleared, is_whole}
 use Rattle.lvm_session.specs.Events.{copy_of}
 use Rattle.lvm_session.proofs.MovesLemmas.{move_of, move_partition, open_one}
-use Rattle.lvm_due.proofs.passed.Names.{place_of}
+use Rattle.lvm_due.proofs.passed.Due.{place_of}
 use Rattle.lvm_moves.specs.Choosing.{IsCopyThere, IsThere, MayChoose}
 
 index_is : (ps : List Pp) (k : ℕ) (p d : Pp) → slice_get ps k ≡ Some p → slice_index_or ps k d ≡ p

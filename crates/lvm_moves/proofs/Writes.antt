@@ -23,7 +23,7 @@ use Rattle.lvm_session.specs.State.{Core, State, state}
 use Rattle.lvm_session.specs.Enabled.{is_lost, is_status_due, same_rows, same_status}
 use Rattle.lvm_session.specs.Dark.{all_dark}
 use Rattle.lvm_session.specs.Turns.{Darkens, SaysTheSame}
-use Rattle.lvm_moves.specs.passed.Names.{MayEnd}
+use Rattle.lvm_moves.specs.passed.Session.{MayEnd}
 use Rattle.lvm_session.specs.Sound.{IsGoing}
 use Rattle.lvm_moves.proofs.OutLemmas.{pool_same}
 use Rattle.lvm_moves.specs.Updating.{MayStartStatus, NextOn}

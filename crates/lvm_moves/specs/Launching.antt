@@ -4,7 +4,7 @@ use Rattle.lvm_num.specs.declared.place.Pp.{Pp}
 use Rattle.lvm_disk.specs.Device.{Device}
 use Rattle.lvm_disk.specs.Steps.{IsRange}
 use Rattle.lvm_mwc.specs.Cache.{Cached, flight_on, has_disk}
-use Rattle.lvm_session.specs.passed.Names.{note_sector}
+use Rattle.lvm_session.specs.passed.Kept.{note_sector}
 use Rattle.lvm_session.specs.declared.bringing.OpenCopy.{OpenCopy}
 use Rattle.lvm_session.specs.declared.open.Open.{Open}
 use Rattle.lvm_session.specs.State.{Core, State}

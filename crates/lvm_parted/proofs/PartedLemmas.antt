@@ -24,7 +24,7 @@ use Rattle.lvm_kept.specs.Kept.{HasShape, StandsAs, MayDiffer, IsBlockKept, Bloc
 use Rattle.lvm_kept.proofs.CommittedLemmas.Finding.{finding_reads}
 use Rattle.lvm_steps.specs.Committing.{VolumeIsServed}
 use Rattle.lvm_steps.proofs.GroupLemmas.Members.{member_of_parts}
-use Rattle.lvm_commit.proofs.passed.Names.{clash}
+use Rattle.lvm_commit.proofs.passed.Steps.{clash}
 use Rattle.lvm_commit.proofs.LawsLemmas.Found.{shows_group, status_read}
 use Rattle.lvm_even.proofs.Lists.{left_of, right_of, both_of, of_passing, one_passes}
 use Rattle.lvm_even.specs.Commands.{KeepsCopies}

@@ -2,7 +2,7 @@
 use Rattle.std.specs.Prelude.{ℕ, Bool, true, false, ◌&&◌, ◌||◌, not, List, length, Option, Some, None, position, nat_le, if◌then◌else◌}
 use Rattle.std.specs.List.{list_any}
 use Rattle.std.specs.Option.{option_map_or}
-use Rattle.lvm_sched.specs.passed.Names.{Mode, Policy}
+use Rattle.lvm_sched.specs.passed.Num.{Mode, Policy}
 use Rattle.lvm_sched.specs.passed.NumDescriptorMode as mode
 use Rattle.lvm_vol.specs.declared.entry.Outcome.TheVariants as outcome
 use Rattle.lvm_sched.specs.declared.writes.TargetState.TheVariants as stage

@@ -1,3 +1,3 @@
-pub mod Names
+pub mod Sched
 pub mod SchedWritesTargetState
 pub mod VolEntryOutcome

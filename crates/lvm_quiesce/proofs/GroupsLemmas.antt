@@ -12,7 +12,7 @@ use Rattle.lvm_steps.proofs.LawsLemmas.Clock.{all_is_behind_next}
 use Rattle.lvm_write.specs.Parts.{Spends}
 use Rattle.lvm_write.proofs.PartsLemmas.Transfers.{rose_then, spends_none, spends_then}
 use Rattle.lvm_session.specs.State.{Core, State}
-use Rattle.lvm_core.specs.passed.Names.{AreFaults}
+use Rattle.lvm_core.specs.passed.SessionStart.{AreFaults}
 use Rattle.lvm_core.specs.declared.parts.Room.{Room}
 use Rattle.lvm_core.specs.declared.refused.Cause.{Cause}
 use Rattle.lvm_core.specs.declared.refused.Cause.TheVariants as cause

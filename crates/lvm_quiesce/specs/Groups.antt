@@ -9,7 +9,8 @@ use Rattle.lvm_steps.specs.Moments.{ImagesKept, Keeps}
 use Rattle.lvm_steps.specs.Requests.{at}
 use Rattle.lvm_steps.specs.Behind.{StampsAreEarlier}
 use Rattle.lvm_write.specs.Parts.{Spends}
-use Rattle.lvm_core.specs.passed.Names.{NoneIsLeft, AreFaults}
+use Rattle.lvm_core.specs.passed.Commit.{NoneIsLeft}
+use Rattle.lvm_core.specs.passed.SessionStart.{AreFaults}
 use Rattle.lvm_session.specs.State.{Core, State}
 use Rattle.lvm_core.specs.declared.parts.Room.{Room}
 use Rattle.lvm_core.specs.declared.refused.Cause.{Cause}

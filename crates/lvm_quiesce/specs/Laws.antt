@@ -7,7 +7,7 @@ use Rattle.lvm_kept.specs.Moments.{Moment}
 use Rattle.lvm_steps.specs.Moments.{StaysKept, Keeps}
 use Rattle.lvm_steps.specs.Requests.{at}
 use Rattle.lvm_steps.specs.Behind.{StampsAreEarlier, ClockIsAhead}
-use Rattle.lvm_core.specs.passed.Names.{IsOneFoundOn}
+use Rattle.lvm_core.specs.passed.Commit.{IsOneFoundOn}
 use Rattle.lvm_quiesce.specs.Behind.{IsBehindEach, ClockIsAheadEach}
 use Rattle.lvm_quiesce.specs.Ends.{Quiesces, QuiesceGives, StartsNothing}
 use Rattle.lvm_quiesce.specs.declared.ends.Quiesced.{Quiesced}

@@ -1,2 +1,2 @@
+pub mod Core
 pub mod CoreRefusedCause
-pub mod Names

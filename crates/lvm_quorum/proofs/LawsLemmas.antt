@@ -13,7 +13,8 @@ use Rattle.lvm_quorum.specs.passed.Transfer.{held, newest_on, read_under, slot_o
 use Rattle.lvm_num.specs.DescriptorBytes.{descriptor_of}
 use Rattle.lvm_num.specs.StatusBytes.{status_of}
 use Rattle.lvm_num.proofs.Booleans.{passed_if}
-use Rattle.lvm_quorum.proofs.passed.Names.{read_is_spelled, is_read}
+use Rattle.lvm_quorum.proofs.passed.Vgda.{read_is_spelled}
+use Rattle.lvm_quorum.proofs.passed.Vgsa.{is_read}
 use Rattle.lvm_quorum.specs.Laws.{DescriptorsAreValid, StatusesAreValid}
 
 -- ---- bytes

@@ -3,7 +3,8 @@ use Rattle.std.proofs.Common.{◌≡◌, inl, inr, ◌≤◌, ◌+◌, ◌++◌,
 use Rattle.std.proofs.lemmas.Option.{slice_get_within}
 use Rattle.std.proofs.lemmas.List.{length-append}
 use Rattle.lvm_quorum.specs.passed.Transfer.{Rose, Media, Device, IsReady, image_of, DeviceStep, Path, Stop, IsUntouched, OnlyReads, IsRested, StopGives}
-use Rattle.lvm_quorum.proofs.passed.Names.{append-path, map-path, only_none, untouched_none, rested_none, only_more, untouched_more, rested_more, stop_more}
+use Rattle.lvm_quorum.proofs.passed.Disk.{append-path, map-path}
+use Rattle.lvm_quorum.proofs.passed.Transfer.{only_none, untouched_none, rested_none, only_more, untouched_more, rested_more, stop_more}
 use Rattle.lvm_quorum.specs.declared.row.SurveyRow.{SurveyRow}
 use Rattle.lvm_quorum.specs.Surveyed.{IsRead}
 use Rattle.lvm_quorum.specs.Surveying.{IsSmall, IsSurveyed}

@@ -6,7 +6,9 @@ use Rattle.lvm_num.specs.declared.record.Kind.TheVariants as kind
 use Rattle.lvm_num.specs.declared.record.Stamp.{Stamp}
 use Rattle.lvm_num.specs.declared.descriptor.Descriptor.{Descriptor}
 use Rattle.lvm_num.specs.DescriptorBytes.{descriptor_of}
-use Rattle.lvm_transfer.specs.passed.Names.{newest_on, Media, image_of, has_records, descriptor_on, Latest}
+use Rattle.lvm_transfer.specs.passed.Rec.{newest_on, Latest}
+use Rattle.lvm_transfer.specs.passed.Disk.{Media, image_of}
+use Rattle.lvm_transfer.specs.passed.Kept.{has_records, descriptor_on}
 use Rattle.lvm_quorum.specs.Reading.{under, descriptor_shown, IsLatestOn}
 
 pub is_there : (d n size : ℕ) → d < n → 4096 ≤ size → (nat_lt d n && nat_le 4096 size) ≡ true

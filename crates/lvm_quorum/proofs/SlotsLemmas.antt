@@ -4,7 +4,8 @@ use Rattle.std.specs.Prelude.{option_and_then}
 use Rattle.lvm_num.specs.declared.record.Framed.{Framed}
 use Rattle.lvm_num.specs.declared.record.Kind.{Kind}
 use Rattle.lvm_num.specs.Record.{Stamped, record_in, newer}
-use Rattle.lvm_transfer.specs.passed.Names.{held, read_under, slot_of, Media, Found, Latest}
+use Rattle.lvm_transfer.specs.passed.Rec.{held, read_under, slot_of, Found, Latest}
+use Rattle.lvm_transfer.specs.passed.Disk.{Media}
 use Rattle.lvm_quorum.specs.Reading.{home_of, under, stamped_found, IsLatestOn}
 
 -- what slots of the same record hold is the same

@@ -8,10 +8,12 @@ use Rattle.lvm_num.specs.Record.{slot_size, slot_start}
 use Rattle.lvm_num.specs.Status.{IsValidStatus}
 use Rattle.lvm_num.specs.StatusBytes.{status_of}
 use Rattle.lvm_num.specs.Torn.{Sectors}
-use Rattle.lvm_transfer.specs.passed.Names.{held, newest_on, slot_of, Image, Device, note_sector, contents_of, Latest}
+use Rattle.lvm_transfer.specs.passed.Rec.{held, newest_on, slot_of, Latest}
+use Rattle.lvm_transfer.specs.passed.Disk.{Image, Device}
+use Rattle.lvm_transfer.specs.passed.Kept.{note_sector, contents_of}
 use Rattle.lvm_transfer.specs.Reading.{SectorsRead}
 use Rattle.lvm_quorum.specs.declared.area.RecordArea.{RecordArea}
-pub use Rattle.lvm_transfer.specs.passed.Names.{under, home_of, stamped_found, IsHome}
+pub use Rattle.lvm_transfer.specs.passed.Rec.{under, home_of, stamped_found, IsHome}
 use Rattle.lvm_num.specs.declared.descriptor.Descriptor.{Descriptor}
 
 -- ---- records that are found

@@ -6,7 +6,8 @@ ghost use Rattle.lvm_num.specs.DescriptorBytes.{descriptor_of};
 ghost use Rattle.lvm_num.specs.Record.{joined};
 ghost use Rattle.lvm_num.specs.Status.{IsValidStatus};
 ghost use Rattle.lvm_num.specs.StatusBytes.{status_of};
-ghost use Rattle.lvm_transfer.specs.passed.Names.{stamped_found, held, IsReady, image_of};
+ghost use Rattle.lvm_transfer.specs.passed.Rec.{stamped_found, held};
+ghost use Rattle.lvm_transfer.specs.passed.Disk.{IsReady, image_of};
 ghost use Rattle.lvm_transfer.specs.Reading.{only_buffer, IsInRecords, ReadsEnd, SectorsRead};
 ghost use Rattle.lvm_quorum.specs.Reading.{descriptor_shown, AreaRead, IsArea, IsAreaValid, IsLatestOn, IsValidLatest, SlotsRead};
 

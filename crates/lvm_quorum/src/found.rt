@@ -5,7 +5,7 @@ ghost use Rattle.lvm_num.specs.Descriptor.{IsValid};
 ghost use Rattle.lvm_num.specs.DescriptorBytes.{descriptor_of};
 ghost use Rattle.lvm_num.specs.Status.{IsValidStatus};
 ghost use Rattle.lvm_num.specs.StatusBytes.{status_of};
-ghost use Rattle.lvm_transfer.specs.passed.Names.{held, stamped_found};
+ghost use Rattle.lvm_transfer.specs.passed.Rec.{held, stamped_found};
 
 use lvm_num::{Descriptor, Memory, Status};
 use lvm_transfer::below::{Found, Kind, read_slot};

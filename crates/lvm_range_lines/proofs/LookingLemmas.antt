@@ -2,7 +2,7 @@
 use Rattle.std.proofs.Common.{◌≡◌, ℕ, List, [], Option, Some, None, ap, subst, arith}
 use Rattle.std.specs.Prelude.{Contains, MatchOption, Result, Ok, Err}
 use Rattle.lvm_num.specs.declared.descriptor.LvRow.{LvRow}
-use Rattle.lvm_group_lines.specs.passed.Names.{HasNoVolumeNamed, IsNumberOf}
+use Rattle.lvm_group_lines.specs.passed.Core.{HasNoVolumeNamed, IsNumberOf}
 use Rattle.lvm_session.specs.State.{Core}
 use Rattle.lvm_posts.specs.declared.asked.Asked.{Asked}
 use Rattle.lvm_group_lines.specs.passed.Ranges.{AskRangeFault, AskRangeGives, Asks, range_fault}

@@ -1,12 +1,13 @@
 pub mod Group
 pub mod GroupLines
 pub mod Handover
-pub mod Names
+pub mod Keeps
+pub mod KeepsEvents
+pub mod Members
 pub mod Quiesce
 pub mod Ranges
 pub mod Splitting
+pub mod Tie
 pub mod TieCommands
 pub mod Varyon
 pub mod Volumes
-pub mod Tie
-pub mod Members

@@ -1,7 +1,7 @@
 -- What a line does that asks for a range of a volume.
 use Rattle.std.specs.Prelude.{◌≡◌, ◌∷◌, ◌++◌, ℕ, [], List, Option, Some, None, Result, Ok, Err, IfErr}
 use Rattle.lvm_num.specs.Buffer.{Sector}
-use Rattle.lvm_group_lines.specs.passed.Names.{IsNumberOf, HasNoVolumeNamed}
+use Rattle.lvm_group_lines.specs.passed.Core.{IsNumberOf, HasNoVolumeNamed}
 use Rattle.lvm_session.specs.Sound.{IsSound}
 use Rattle.lvm_session.specs.State.{Core, State}
 use Rattle.lvm_group_lines.specs.Disks.{blocks_text}

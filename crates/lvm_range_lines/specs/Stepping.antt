@@ -7,7 +7,7 @@ use Rattle.lvm_session.specs.declared.open.Power.{Power}
 use Rattle.lvm_session.specs.declared.open.Power.TheVariants as power
 use Rattle.lvm_session.specs.Sound.{IsSound}
 use Rattle.lvm_session.specs.State.{Core, State, votes_there}
-use Rattle.lvm_group_lines.specs.passed.Names.{LosesVotesByFaults}
+use Rattle.lvm_group_lines.specs.passed.KeepsEvents.{LosesVotesByFaults}
 use Rattle.lvm_group_lines.specs.passed.Tie.{RunsOn}
 use Rattle.lvm_group_lines.specs.passed.Ranges.{SteppingEnds}
 use Rattle.lvm_group_lines.specs.State.{ScriptState}

@@ -16,13 +16,13 @@ use Rattle.lvm_vol.proofs.LogLemmas.{find_stands}
 use Rattle.lvm_vol.proofs.FactsLemmas.Order.{any-push, begun-push, numbered, stands-at}
 use Rattle.lvm_history.proofs.LogLemmas.Staying.{blocks_begun-push}
 use Rattle.lvm_path.specs.Asks.{at_of, count_of, lv_of}
-use Rattle.lvm_posts.specs.passed.Names.{piece_end}
+use Rattle.lvm_posts.specs.passed.Raw.{piece_end}
 use Rattle.lvm_session.specs.declared.open.Open.{Open}
 use Rattle.lvm_session.specs.Calls.{is_asked, new_open}
 use Rattle.lvm_session.specs.Sound.{outcome_by, outcome_in}
 use Rattle.lvm_session.specs.State.{Core}
 use Rattle.lvm_keeps.proofs.SoundLemmas.Telling.{outcome_still}
-use Rattle.lvm_driver.proofs.passed.Names.{next_is}
+use Rattle.lvm_driver.proofs.passed.KeepsEvents.{next_is}
 use Rattle.lvm_posts.specs.declared.asked.Asked.{Asked}
 use Rattle.lvm_posts.specs.Pieces.{IsLaidOut}
 use Rattle.lvm_ranges.specs.Asking.{Asks, IsAskedFor}

@@ -32,8 +32,9 @@ use Rattle.lvm_session.specs.Ends.{Ends, EndsAs}
 use Rattle.lvm_session.specs.Judging.{copies_in, is_move_done}
 use Rattle.lvm_session.specs.State.{Core, State}
 use Rattle.lvm_session.specs.Turns.{FinishMakes, Finishes, Makes, Moves, NoStart, OnMakes, TurnMakes, WasDark, WasOff, WasOn}
-use Rattle.lvm_ranges.specs.passed.Names.{counts_seen, faults_seen}
-use Rattle.lvm_ranges.proofs.passed.Names.{turn_counts, Given, given, turn_goes, at_place, counted_at, last_count}
+use Rattle.lvm_ranges.specs.passed.Calls.{counts_seen, faults_seen}
+use Rattle.lvm_ranges.proofs.passed.KeepsEvents.{turn_counts, at_place, counted_at, last_count}
+use Rattle.lvm_ranges.proofs.passed.Going.{Given, given, turn_goes}
 use Rattle.lvm_ranges.specs.declared.copies.Passed.{Passed}
 use Rattle.lvm_ranges.specs.declared.copies.Passed.TheVariants as passed
 use Rattle.lvm_ranges.specs.declared.fault.SyncFault.{SyncFault}

@@ -25,7 +25,7 @@ use Rattle.lvm_session.specs.Judging.{aims, copies_for, is_running, is_waiting, 
 use Rattle.lvm_session.specs.State.{Core, State}
 use Rattle.lvm_session.specs.Turns.{FinishMakes, Finishes, Makes, Moves, NoStart, OnMakes, TurnMakes, WasDark, WasOff, WasOn}
 use Rattle.lvm_keeps.proofs.Lists.{all_mapped, all_set}
-use Rattle.lvm_driver.proofs.passed.Names.{copy_stays, marked_stays, note_stays, status_stays}
+use Rattle.lvm_driver.proofs.passed.KeepsEvents.{copy_stays, marked_stays, note_stays, status_stays}
 use Rattle.lvm_ranges.specs.Choosing.{AreSince, TurnChoosesSince}
 
 -- this holds of its number and its ask, and where it has this number or a later one its targets were chosen since

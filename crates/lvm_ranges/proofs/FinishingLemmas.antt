@@ -36,7 +36,8 @@ use Rattle.lvm_session.specs.State.{Core, State, state, votes_there}
 use Rattle.lvm_keeps.proofs.Lists.{all_removed}
 use Rattle.lvm_keeps.proofs.KeepsLemmas.Losing.{loss_is_caused}
 use Rattle.lvm_keeps.proofs.Small.{both, is_false}
-use Rattle.lvm_driver.proofs.passed.Names.{turn_counts, Given, turn_goes}
+use Rattle.lvm_driver.proofs.passed.KeepsEvents.{turn_counts}
+use Rattle.lvm_driver.proofs.passed.Going.{Given, turn_goes}
 use Rattle.lvm_keeps_events.specs.Losing.{LosesVotesByFaults, LostForFaults}
 use Rattle.lvm_driver.specs.Drains.{IsAny}
 use Rattle.lvm_posts.specs.declared.asked.Asked.{Asked}
@@ -44,7 +45,7 @@ use Rattle.lvm_posts.specs.declared.fault.RangeFault.{RangeFault}
 use Rattle.lvm_posts.specs.declared.fault.RangeFault.TheVariants as fault
 use Rattle.lvm_posts.specs.Deciding.{AllWell, FirstFails, RangeEnds, fault_by}
 use Rattle.lvm_posts.specs.Pieces.{piece_lp, piece_start}
-use Rattle.lvm_posts.specs.passed.Names.{piece_end}
+use Rattle.lvm_posts.specs.passed.Raw.{piece_end}
 use Rattle.lvm_ranges.specs.declared.refusal.AskRangeFault.{AskRangeFault}
 use Rattle.lvm_ranges.specs.Asking.{AskRangeGives, Asks, range_fault}
 use Rattle.lvm_ranges.specs.Choosing.{AreAllSince, AreSince}

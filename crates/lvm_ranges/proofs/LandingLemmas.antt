@@ -16,8 +16,10 @@ use Rattle.lvm_session.specs.Requests.{IsLanded}
 use Rattle.lvm_session.specs.Sound.{IsOver, IsSound, waits}
 use Rattle.lvm_session.specs.State.{State}
 use Rattle.lvm_session.specs.Turns.{Finds, FindsNothing, TurnMakes}
-use Rattle.lvm_driver.specs.passed.Names.{is_last, is_moving, RunsOn, TurnTells, power_by}
-use Rattle.lvm_driver.proofs.passed.Names.{path_frames, turn_ends, runs_both, runs_none, turn_counts}
+use Rattle.lvm_driver.specs.passed.KeepsEvents.{is_last, TurnTells, power_by}
+use Rattle.lvm_driver.specs.passed.Going.{is_moving, RunsOn}
+use Rattle.lvm_driver.proofs.passed.Going.{path_frames, runs_both, runs_none}
+use Rattle.lvm_driver.proofs.passed.KeepsEvents.{turn_ends, turn_counts}
 use Rattle.lvm_keeps_events.specs.Losing.{LosesByFaults, LosesVotesByFaults}
 use Rattle.lvm_keeps_events.proofs.LosingLemmas.Losing.{loses_both, loses_none, turn_loses}
 use Rattle.lvm_keeps_events.proofs.LosingLemmas.Votes.{votes_go}

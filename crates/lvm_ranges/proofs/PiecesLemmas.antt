@@ -21,8 +21,8 @@ use Rattle.lvm_history.proofs.LogLemmas.Staying.{spare_bytes-push, spare_entries
 use Rattle.lvm_path.specs.declared.ask.Ask.{Ask}
 use Rattle.lvm_path.specs.declared.ask.Ask.TheVariants.{Read, Write}
 use Rattle.lvm_path.specs.Asks.{at_of, count_of, lv_of}
-use Rattle.lvm_posts.specs.passed.Names.{piece_count, piece_end}
-use Rattle.lvm_posts.proofs.passed.Names.{fewer_pieces}
+use Rattle.lvm_posts.specs.passed.Raw.{piece_count, piece_end}
+use Rattle.lvm_posts.proofs.passed.Raw.{fewer_pieces}
 use Rattle.lvm_session.specs.declared.answers.AskFault.{AskFault}
 use Rattle.lvm_session.specs.declared.answers.AskFault.TheVariants as refusal
 use Rattle.lvm_session.specs.declared.open.Open.{Open}
@@ -31,7 +31,7 @@ use Rattle.lvm_session.specs.declared.open.Power.TheVariants as power
 use Rattle.lvm_session.specs.Calls.{SubmitGives, ask_fault, fault_by, fault_in as ask_fault_in, fault_on, has_history, has_numbers, is_asked, new_open, submitted}
 use Rattle.lvm_session.specs.Sound.{count_if}
 use Rattle.lvm_session.specs.State.{Core}
-use Rattle.lvm_driver.proofs.passed.Names.{blocks_fit}
+use Rattle.lvm_driver.proofs.passed.KeepsEvents.{blocks_fit}
 use Rattle.lvm_posts.specs.declared.asked.Asked.{Asked}
 use Rattle.lvm_ranges.specs.declared.refusal.AskRangeFault.{AskRangeFault}
 use Rattle.lvm_ranges.specs.declared.refusal.AskRangeFault.TheVariants as fault

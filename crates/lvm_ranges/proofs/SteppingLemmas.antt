@@ -6,7 +6,8 @@ use Rattle.lvm_session.specs.declared.answers.Turned.TheVariants as turned
 use Rattle.lvm_session.specs.State.{State}
 use Rattle.lvm_session.specs.Sound.{IsSound}
 use Rattle.lvm_session.specs.Turns.{TurnMakes}
-use Rattle.lvm_driver.specs.passed.Names.{RunsOn, TurnTells}
+use Rattle.lvm_driver.specs.passed.Going.{RunsOn}
+use Rattle.lvm_driver.specs.passed.KeepsEvents.{TurnTells}
 use Rattle.lvm_ranges.specs.Stepping.{LastEnded, MovesTurns, NoMove, OneMove, SteppingEnds}
 use Rattle.lvm_ranges.proofs.LandingLemmas.{GoesWith, at_first, with_turn}
 

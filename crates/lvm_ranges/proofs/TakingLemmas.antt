@@ -27,8 +27,9 @@ use Rattle.lvm_session.specs.State.{Core, State, votes_there}
 use Rattle.lvm_keeps.proofs.Lists.{any_removed}
 use Rattle.lvm_keeps.proofs.Small.{both}
 use Rattle.lvm_keeps.proofs.SoundLemmas.Telling.{answered_still, open_still, outcome_still}
-use Rattle.lvm_driver.proofs.passed.Names.{some_position, runs_both, runs_none}
-use Rattle.lvm_driver.specs.passed.Names.{RunsOn}
+use Rattle.lvm_driver.proofs.passed.KeepsEvents.{some_position}
+use Rattle.lvm_driver.proofs.passed.Going.{runs_both, runs_none}
+use Rattle.lvm_driver.specs.passed.Going.{RunsOn}
 use Rattle.lvm_driver.specs.Answers.{IsCausedFor}
 use Rattle.lvm_posts.specs.declared.asked.Asked.{Asked}
 use Rattle.lvm_posts.specs.declared.fault.RangeFault.{RangeFault}

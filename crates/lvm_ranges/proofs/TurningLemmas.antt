@@ -1,5 +1,5 @@
 -- What goes on beside copies that are brought up.
-use Rattle.lvm_ranges.proofs.passed.Names.{path_shape, path_frames, goes_any}
+use Rattle.lvm_ranges.proofs.passed.Going.{path_shape, path_frames, goes_any, leaves_both, leaves_none, stays_unstuck}
 use Rattle.std.proofs.Common.{◌≡◌, ◌≤◌, ◌+◌, ◌-◌, ◌⊎◌, inl, inr, ℕ, refl, sym, ◌∙◌, subst, arith}
 use Rattle.lvm_disk.specs.Counts.{RoseBy}
 use Rattle.lvm_disk.specs.Paths.{Here, Path, Then}
@@ -10,8 +10,10 @@ use Rattle.lvm_session.specs.declared.open.Power.TheVariants as power
 use Rattle.lvm_session.specs.Sound.{IsSound}
 use Rattle.lvm_session.specs.State.{Core, State}
 use Rattle.lvm_session.specs.Turns.{Finds, FindsNothing, TurnMakes}
-use Rattle.lvm_ranges.specs.passed.Names.{RunsOn, TurnTells, IsAny, IsTurn, LastTurn, NoTurn, ThenMoves, ThenWaits}
-use Rattle.lvm_ranges.proofs.passed.Names.{leaves_both, leaves_none, stays_unstuck, turn_counts, loses_both, loses_none, turn_loses}
+use Rattle.lvm_ranges.specs.passed.Going.{RunsOn}
+use Rattle.lvm_ranges.specs.passed.KeepsEvents.{TurnTells}
+use Rattle.lvm_ranges.specs.passed.Driver.{IsAny, IsTurn, LastTurn, NoTurn, ThenMoves, ThenWaits}
+use Rattle.lvm_ranges.proofs.passed.KeepsEvents.{turn_counts, loses_both, loses_none, turn_loses}
 use Rattle.lvm_ranges.proofs.KeepingLemmas.Tables.{table_same, table_then, turn_table}
 use Rattle.lvm_ranges.specs.declared.fault.SyncFault.{SyncFault}
 use Rattle.lvm_ranges.specs.declared.fault.SyncFault.TheVariants as fault

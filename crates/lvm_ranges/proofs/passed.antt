@@ -1,2 +1,4 @@
-pub mod Names
+pub mod Going
+pub mod KeepsEvents
+pub mod Posts
 pub mod Tie

@@ -4,7 +4,7 @@ use Rattle.lvm_disk.specs.Counts.{Rose}
 use Rattle.lvm_session.specs.declared.open.Power.TheVariants as power
 use Rattle.lvm_session.specs.Calls.{has_numbers}
 use Rattle.lvm_session.specs.State.{State}
-use Rattle.lvm_ranges.specs.passed.Names.{faults_seen}
+use Rattle.lvm_ranges.specs.passed.Calls.{faults_seen}
 use Rattle.lvm_ranges.specs.declared.fault.SyncFault.{SyncFault}
 use Rattle.lvm_ranges.specs.declared.fault.SyncFault.TheVariants as fault
 

@@ -3,7 +3,7 @@ use Rattle.std.specs.Prelude.{◌≡◌, ◌⊎◌, ◌<◌, ◌+◌, ℕ, true,
 use Rattle.lvm_vol.specs.Log.{is_open}
 use Rattle.lvm_session.specs.declared.answers.Turned.TheVariants as turned
 use Rattle.lvm_session.specs.State.{State}
-use Rattle.lvm_driver.specs.passed.Names.{RunsOn}
+use Rattle.lvm_driver.specs.passed.Going.{RunsOn}
 use Rattle.lvm_keeps_events.specs.Losing.{LosesVotesByFaults}
 use Rattle.lvm_driver.specs.Drains.{IsTurn, LastTurn, TurnsWhile}
 use Rattle.lvm_posts.specs.declared.asked.Asked.{Asked}

@@ -13,7 +13,9 @@ use Rattle.lvm_session.specs.declared.open.Power.TheVariants as power
 use Rattle.lvm_session.specs.Calls.{Opens, closed, copy_at, copy_fault, copy_state, has_numbers}
 use Rattle.lvm_session.specs.Judging.{copies_in, is_stale}
 use Rattle.lvm_session.specs.State.{Core, State, state}
-use Rattle.lvm_ranges.specs.passed.Names.{counts_seen, is_marked, IsCopyCaused, LastTurn, TurnsWhile}
+use Rattle.lvm_ranges.specs.passed.Calls.{counts_seen}
+use Rattle.lvm_ranges.specs.passed.KeepsEvents.{is_marked}
+use Rattle.lvm_ranges.specs.passed.Driver.{IsCopyCaused, LastTurn, TurnsWhile}
 use Rattle.lvm_ranges.specs.declared.fault.SyncFault.{SyncFault}
 use Rattle.lvm_ranges.specs.declared.fault.SyncFault.TheVariants as fault
 use Rattle.lvm_ranges.specs.declared.copies.Opening.{Opening}

@@ -2,7 +2,7 @@
 use Rattle.std.specs.Prelude.{ℕ, ◌+◌, ◌-◌, ◌<◌, List, Option, Some, None}
 use Rattle.lvm_path.specs.declared.ask.Ask.{Ask}
 use Rattle.lvm_path.specs.declared.ask.Ask.TheVariants.{Read, Write}
-use Rattle.lvm_posts.specs.passed.Names.{piece_end}
+use Rattle.lvm_posts.specs.passed.Raw.{piece_end}
 use Rattle.lvm_session.specs.Calls.{submitted}
 use Rattle.lvm_session.specs.State.{Core}
 use Rattle.lvm_posts.specs.Pieces.{filled}

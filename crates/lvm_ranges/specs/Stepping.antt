@@ -4,7 +4,7 @@ use Rattle.lvm_session.specs.declared.answers.Turned.{Turned}
 use Rattle.lvm_session.specs.declared.answers.Turned.TheVariants as turned
 use Rattle.lvm_session.specs.State.{State}
 use Rattle.lvm_session.specs.Turns.{TurnMakes}
-use Rattle.lvm_driver.specs.passed.Names.{TurnTells}
+use Rattle.lvm_driver.specs.passed.KeepsEvents.{TurnTells}
 
 -- so many turns, each of which has moved
 pub data MovesTurns (first : State) : ℕ → State → Type 0 where

@@ -11,7 +11,7 @@ use Rattle.lvm_session.specs.declared.open.Power.TheVariants as power
 use Rattle.lvm_session.specs.Calls.{has_numbers}
 use Rattle.lvm_session.specs.Judging.{copies_in, is_missing, is_settled, is_stale, is_wanted_stale}
 use Rattle.lvm_session.specs.State.{Core, State}
-use Rattle.lvm_ranges.specs.passed.Names.{has_failed_on, is_lasting}
+use Rattle.lvm_ranges.specs.passed.KeepsEvents.{has_failed_on, is_lasting}
 use Rattle.lvm_ranges.specs.declared.copies.Passed.{Passed}
 use Rattle.lvm_ranges.specs.declared.copies.Passed.TheVariants as passed
 use Rattle.lvm_ranges.specs.declared.fault.SyncFault.{SyncFault}

@@ -5,7 +5,9 @@ use Rattle.lvm_session.specs.declared.open.Power.TheVariants as power
 use Rattle.lvm_session.specs.Calls.{has_numbers}
 use Rattle.lvm_session.specs.Left.{left_of}
 use Rattle.lvm_session.specs.State.{Core, State}
-use Rattle.lvm_ranges.specs.passed.Names.{LeavesSession, LosesByFaults, IsDrained}
+use Rattle.lvm_ranges.specs.passed.Going.{LeavesSession}
+use Rattle.lvm_ranges.specs.passed.KeepsEvents.{LosesByFaults}
+use Rattle.lvm_ranges.specs.passed.Driver.{IsDrained}
 use Rattle.lvm_session.specs.declared.answers.Turned.TheVariants as turned
 use Rattle.lvm_session.specs.Turns.{Finds, TurnMakes}
 use Rattle.lvm_ranges.specs.Keeping.{KeepsTable}

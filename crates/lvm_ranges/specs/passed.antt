@@ -1,3 +1,6 @@
+pub mod Calls
 pub mod Driver
-pub mod Names
+pub mod Going
+pub mod KeepsEvents
+pub mod Posts
 pub mod Tie

@@ -4,10 +4,10 @@ ghost use Rattle.lvm_vol.specs.Log.{next_id};
 ghost use Rattle.lvm_session.specs.declared.open.Power.TheVariants as power;
 ghost use Rattle.lvm_session.specs.Asking.{IsAsking};
 ghost use Rattle.lvm_session.specs.Calls.{ask_fault, has_numbers, submitted};
-ghost use Rattle.lvm_driver.specs.passed.Names.{RunsOn};
+ghost use Rattle.lvm_driver.specs.passed.Going.{RunsOn};
 ghost use Rattle.lvm_session.specs.State.{state_of};
 ghost use Rattle.lvm_ranges.specs.Asking.{AskRangeGives, Asks, IsAskedFor, StaysServing, fault_in, has_room, range_fault};
-ghost use Rattle.lvm_posts.specs.passed.Names.{piece_count};
+ghost use Rattle.lvm_posts.specs.passed.Raw.{piece_count};
 ghost use Rattle.lvm_ranges.specs.Pieces.{Submits, piece_ask, with_piece};
 
 use crate::refusal::AskRangeFault;

@@ -1,7 +1,8 @@
 //! Turns until a range has landed.
 ghost use Rattle.std.specs.Prelude.{◌≡◌, ◌<◌, ◌+◌, ◌-◌, true, false};
 ghost use Rattle.lvm_disk.specs.Paths.{Path};
-ghost use Rattle.lvm_driver.specs.passed.Names.{Spends, is_moving};
+ghost use Rattle.lvm_driver.specs.passed.Write.{Spends};
+ghost use Rattle.lvm_driver.specs.passed.Going.{is_moving};
 ghost use Rattle.lvm_session.specs.declared.open.Power.TheVariants as power;
 ghost use Rattle.lvm_session.specs.State.{state_of};
 ghost use Rattle.lvm_driver.specs.Drains.{IsAny};

@@ -1,6 +1,7 @@
 //! The answers of a range that has landed.
 ghost use Rattle.std.specs.Prelude.{◌≡◌, ◌<◌, ◌+◌, ◌-◌, Option, false};
-ghost use Rattle.lvm_driver.specs.passed.Names.{Spends, RunsOn, is_moving};
+ghost use Rattle.lvm_driver.specs.passed.Write.{Spends};
+ghost use Rattle.lvm_driver.specs.passed.Going.{RunsOn, is_moving};
 ghost use Rattle.lvm_session.specs.declared.open.Power.TheVariants as power;
 ghost use Rattle.lvm_session.specs.State.{state_of};
 ghost use Rattle.lvm_posts.specs.Posts.{AreHeld};

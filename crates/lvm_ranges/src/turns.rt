@@ -1,7 +1,7 @@
 //! A number of turns.
 ghost use Rattle.std.specs.Prelude.{◌≡◌};
 ghost use Rattle.lvm_session.specs.declared.open.Power.TheVariants as power;
-ghost use Rattle.lvm_driver.specs.passed.Names.{RunsOn};
+ghost use Rattle.lvm_driver.specs.passed.Going.{RunsOn};
 ghost use Rattle.lvm_session.specs.State.{state_of};
 ghost use Rattle.lvm_keeps_events.specs.Losing.{LosesVotesByFaults};
 ghost use Rattle.lvm_ranges.specs.Keeping.{KeepsTable};

@@ -14,7 +14,7 @@ use Rattle.lvm_steps.specs.Requests.{IsInNoGroup, at as moment_of}
 use Rattle.lvm_steps.proofs.MomentsLemmas.Spans.{keeps_still, keeps_steps, later_append}
 use Rattle.lvm_steps.proofs.EnteringLemmas.{quiet_goes_on, calm_goes_on}
 use Rattle.lvm_steps.proofs.RequestsLemmas.Writing.{still_shows_none}
-use Rattle.lvm_raw.proofs.passed.Names.{unwritten_stays_behind}
+use Rattle.lvm_raw.proofs.passed.Steps.{unwritten_stays_behind}
 use Rattle.lvm_transfer.specs.Transfer.{Relights}
 use Rattle.lvm_transfer.specs.Reading.{OnlyReads, IsCutOff}
 use Rattle.lvm_quorum.specs.Reading.{descriptor_shown}

@@ -26,7 +26,7 @@ use Rattle.std.proofs.Math.Nat.{mod-lt}
 use Rattle.lvm_kept.specs.Group.{is_stale_by, is_named, fresh_on, block_at, IsOneOf}
 use Rattle.lvm_write.specs.Next.{IsLeftBehind, IsNextStatus}
 use Rattle.lvm_even.proofs.Lists.{left_of, right_of, one_passes}
-use Rattle.lvm_even.proofs.passed.Names.{contains, of_map, of_rows}
+use Rattle.lvm_even.proofs.passed.Commit.{contains, of_map, of_rows}
 use Rattle.lvm_even.proofs.Rows.{mib_positive, none_passing}
 use Rattle.lvm_recover.specs.Recopied.{IsToEqual}
 use Rattle.lvm_recover.specs.Beginning.{NextLeavesNone, UsableStay, TrackGroupIsPlanned, TrackGroupIsEqual}

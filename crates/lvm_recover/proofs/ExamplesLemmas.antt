@@ -14,7 +14,7 @@ use Rattle.lvm_kept.specs.Contents.{Contents}
 use Rattle.lvm_kept.specs.Examples.{mirror, two, either_of, ones, torn_mirror}
 use Rattle.lvm_kept.specs.Group.{fresh_on, IsBlockOf, IsOneOf, HoldOne}
 use Rattle.lvm_kept.specs.Kept.{Kept}
-use Rattle.lvm_even.specs.passed.Names.{ShowsCommitted}
+use Rattle.lvm_even.specs.passed.Commit.{ShowsCommitted}
 use Rattle.lvm_even.specs.Even.{IsEven, MissingAreStale}
 use Rattle.lvm_even.specs.Examples.{Pair, status_of, shown_by, there_by, media_of, device_of, even_pair, torn_pair, history_of, naming}
 use Rattle.lvm_even.proofs.ExamplesLemmas.Slots.{first_partition}

@@ -7,7 +7,7 @@ use Rattle.lvm_num.specs.declared.descriptor.Descriptor.{Descriptor}
 use Rattle.lvm_num.specs.Descriptor.{IsValid, copies_of}
 use Rattle.lvm_num.specs.Geometry.{partition_blocks, sector_of}
 use Rattle.lvm_kept.specs.Group.{IsBlockOf, IsOneOf}
-use Rattle.lvm_even.proofs.passed.Names.{partition_is, one_place}
+use Rattle.lvm_even.proofs.passed.Commit.{partition_is, one_place}
 use Rattle.lvm_even.proofs.Rows.{mib_positive}
 
 -- two blocks with one partition and one rest

@@ -9,7 +9,7 @@ use Rattle.lvm_kept.specs.Committed.{IsWithinDisks}
 use Rattle.lvm_kept.specs.Examples.{two}
 use Rattle.lvm_kept.specs.Group.{block_at}
 use Rattle.lvm_kept.specs.Kept.{Kept}
-use Rattle.lvm_even.specs.passed.Names.{ShowsCommitted}
+use Rattle.lvm_even.specs.passed.Commit.{ShowsCommitted}
 use Rattle.lvm_even.specs.Even.{IsEven, MissingAreStale}
 use Rattle.lvm_even.specs.Examples.{Pair, shown_by, status_of, there_by, device_of, history_of, even_pair, torn_pair, naming}
 use Rattle.lvm_recover.specs.Recopied.{IsToEqual, IsRecopied, AreEqualled, OnlyNotesOf}

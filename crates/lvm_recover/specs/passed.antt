@@ -1,1 +1,4 @@
-pub mod Names
+pub mod Commit
+pub mod Even
+pub mod Steps
+pub mod Write

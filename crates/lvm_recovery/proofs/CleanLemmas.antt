@@ -23,7 +23,7 @@ use Rattle.lvm_num.proofs.Booleans.{clash_gives}
 use Rattle.lvm_kept.specs.Group.{IsOneOf, fresh_on}
 use Rattle.lvm_recover.proofs.BeginningLemmas.{usable_stay}
 use Rattle.lvm_tidying.specs.Cleaned.{IsStillDirty, IsCleaned}
-use Rattle.lvm_tidying.proofs.passed.Names.{split, join}
+use Rattle.lvm_tidying.proofs.passed.Steps.{split, join}
 use Rattle.lvm_recovery.specs.Plan.{usable_by}
 use Rattle.lvm_recovery.specs.Dirty.{FindsUsable}
 use Rattle.lvm_recovery.specs.Clean.{lacks_usable, is_left, any_still_dirty, is_still_dirty, left_dirty, LeftDirtyIsCleaned}

@@ -11,13 +11,13 @@ use Rattle.lvm_num.specs.Disks.{Disks}
 use Rattle.lvm_disk.specs.Device.{Media, Image, Device, HasSectors, IsReady, IsWholeImage, image_of, MayLeave}
 use Rattle.lvm_disk.specs.Paths.{DeviceStep, Path, Here}
 use Rattle.lvm_disk.proofs.PathsLemmas.{append-path, last-path, map-path}
-use Rattle.lvm_kept.specs.passed.Names.{Fact}
+use Rattle.lvm_kept.specs.passed.Vol.{Fact}
 use Rattle.lvm_kept.specs.Contents.{contents_of, newest_at, status_on}
 use Rattle.lvm_kept.specs.Plans.{ChangesBy}
 use Rattle.lvm_kept.specs.Torn.{RecordWrite, MayWriteAll, StandsOn, IsOfRecord, IsOfNote, written as as_read}
 use Rattle.lvm_kept.proofs.TornLemmas.Records.{wider, whole_is_new}
 use Rattle.lvm_rec.specs.declared.homes.Homes.{Homes}
-use Rattle.lvm_recover.specs.passed.Names.{ImagesKept, StaysKept}
+use Rattle.lvm_recover.specs.passed.Steps.{ImagesKept, StaysKept}
 use Rattle.lvm_write.specs.Notes.{empty_note_sector}
 use Rattle.lvm_write.specs.Written.{IsWriting, StandsTold}
 use Rattle.lvm_write.specs.Runs.{OneGives}

@@ -15,8 +15,9 @@ use Rattle.lvm_disk.specs.Device.{image_of}
 use Rattle.lvm_kept.specs.Contents.{Contents, contents_of}
 use Rattle.lvm_kept.specs.Examples.{mirror, two, either_of}
 use Rattle.lvm_kept.specs.Group.{fresh_on, is_named, names_if, IsOneOf}
-use Rattle.lvm_recover.specs.passed.Names.{Pair, pair_sizes, status_of, shown_by, there_by, media_of, even_pair, torn_pair, naming, MissingAreStale, ShowsCommitted}
-use Rattle.lvm_recover.proofs.passed.Names.{both_copies, the_row, first_partition, told, behind, enough, is_naming, naming_read, shows, torn_below, valid}
+use Rattle.lvm_recover.specs.passed.Even.{Pair, pair_sizes, status_of, shown_by, there_by, media_of, even_pair, torn_pair, naming, MissingAreStale}
+use Rattle.lvm_recover.specs.passed.Commit.{ShowsCommitted}
+use Rattle.lvm_recover.proofs.passed.Even.{both_copies, the_row, first_partition, told, behind, enough, is_naming, naming_read, shows, torn_below, valid}
 use Rattle.lvm_recovery.specs.declared.copying.Recopy.{Recopy}
 use Rattle.lvm_recovery.specs.Copying.{MayCopy}
 use Rattle.lvm_recovery.specs.Examples.{PairsCopy, first_to_second}

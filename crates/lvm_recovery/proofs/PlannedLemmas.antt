@@ -24,7 +24,7 @@ use Rattle.lvm_kept.specs.Plans.{ChangesBy}
 use Rattle.lvm_kept.proofs.PlacesLemmas.{blocks_are_sectors}
 use Rattle.lvm_kept.specs.Group.{is_stale_by, is_named, fresh_on, block_at, IsBlockOf, IsOneOf}
 use Rattle.lvm_write.proofs.WrittenLemmas.Writing.{told_at, both_at, changes_more}
-use Rattle.lvm_recover.proofs.passed.Names.{mib_positive}
+use Rattle.lvm_recover.proofs.passed.Even.{mib_positive}
 use Rattle.lvm_recover.specs.Recopied.{IsToEqual, IsFromFirst, IsRecopied, HoldFirst}
 use Rattle.lvm_recover.proofs.GeometryLemmas.{IsSame, one_block}
 use Rattle.lvm_recover.proofs.KeepingLemmas.Copying.{left_passes, cons_same, equal_stays}

@@ -15,7 +15,7 @@ use Rattle.lvm_num.proofs.Fronts.{suc_front}
 use Rattle.lvm_kept.specs.Group.{IsOneOf}
 use Rattle.lvm_map.specs.Places.{place_on}
 use Rattle.lvm_recovery.specs.declared.copying.Recopy.{Recopy}
-use Rattle.lvm_recover.proofs.passed.Names.{row_is_volume}
+use Rattle.lvm_recover.proofs.passed.Even.{row_is_volume}
 use Rattle.lvm_recovery.proofs.PlanLemmas.Planning.{places_below}
 use Rattle.lvm_recovery.proofs.CopyingLemmas.AllCopied.{at_index}
 use Rattle.lvm_num.specs.declared.status.Status.{Status}

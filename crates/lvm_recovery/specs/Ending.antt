@@ -18,7 +18,8 @@ use Rattle.lvm_recover.specs.Recopied.{IsRecopied, AreEqualled, OnlyNotesOf}
 use Rattle.lvm_recovery.specs.declared.copying.Recopy.{Recopy}
 use Rattle.lvm_recovery.specs.Copying.{MayCopy, IsCopied, IsInOneRun, IsOfCopies}
 use Rattle.lvm_num.specs.Votes.{CanWrite}
-use Rattle.lvm_recover.specs.passed.Names.{ShowsCommitted, IsNextStatus}
+use Rattle.lvm_recover.specs.passed.Commit.{ShowsCommitted}
+use Rattle.lvm_recover.specs.passed.Write.{IsNextStatus}
 use Rattle.lvm_recovery.specs.Planned.{ArePlanned}
 use Rattle.lvm_recovery.specs.Equalising.{MayEqualise}
 

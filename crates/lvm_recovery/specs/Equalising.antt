@@ -7,13 +7,13 @@ use Rattle.lvm_num.specs.Buffer.{Buffer}
 use Rattle.lvm_num.specs.Disks.{Disks}
 use Rattle.lvm_disk.specs.Device.{Device, HasSectors, Image, IsWholeImage, image_of}
 use Rattle.lvm_disk.specs.Paths.{DeviceStep, Path}
-use Rattle.lvm_kept.specs.passed.Names.{Fact}
+use Rattle.lvm_kept.specs.passed.Vol.{Fact}
 use Rattle.lvm_kept.specs.Contents.{contents_of}
 use Rattle.lvm_kept.specs.Plans.{ChangesBy}
 use Rattle.lvm_kept.specs.Torn.{RecordWrite, IsOfRecord, IsOfNote}
 use Rattle.lvm_rec.specs.declared.homes.Homes.{Homes}
 use Rattle.lvm_rec.specs.Homes.{Flips}
-use Rattle.lvm_recover.specs.passed.Names.{ImagesKept, StaysKept}
+use Rattle.lvm_recover.specs.passed.Steps.{ImagesKept, StaysKept}
 use Rattle.lvm_write.specs.Ends.{IfBegun}
 use Rattle.lvm_write.specs.Notes.{empty_note_sector, NoteTold}
 use Rattle.lvm_write.specs.Written.{write_of, StandsTold}

@@ -3,7 +3,7 @@ use Rattle.std.specs.Prelude.{false, [], ◌∷◌, Some, All}
 use Rattle.lvm_num.specs.declared.descriptor.Mode.TheVariants.{Active, Off}
 use Rattle.lvm_num.specs.Buffer.{zero_sector}
 use Rattle.lvm_kept.specs.Examples.{two}
-use Rattle.lvm_recover.specs.passed.Names.{pair_sizes, status_of, shown_by, there_by, device_of, even_pair, torn_pair, naming}
+use Rattle.lvm_recover.specs.passed.Even.{pair_sizes, status_of, shown_by, there_by, device_of, even_pair, torn_pair, naming}
 use Rattle.lvm_recovery.specs.declared.copying.Recopy.{Recopy}
 use Rattle.lvm_recovery.specs.Copying.{AreApart, MayCopy}
 use Rattle.lvm_recovery.specs.Equalising.{MayEqualise}

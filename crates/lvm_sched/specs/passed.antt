@@ -1,3 +1,3 @@
-pub mod Names
+pub mod Num
 pub mod NumDescriptorMode
 pub mod NumDescriptorPolicy

@@ -20,7 +20,7 @@ use Rattle.lvm_num.specs.Status.{calls_stale, calls_missing}
 use Rattle.lvm_num.proofs.DisksLemmas.{has-zero, has-with}
 use Rattle.lvm_num.proofs.Booleans.{same_turned, not_so, not_either, or_left, twice_fails, thrice_holds}
 use Rattle.lvm_kept.specs.Examples.{member}
-use Rattle.lvm_kept.specs.passed.Names.{Begun, Ordered}
+use Rattle.lvm_kept.specs.passed.Vol.{Begun, Ordered}
 use Rattle.lvm_mwc.specs.declared.entries.CacheEntry.{CacheEntry}
 use Rattle.lvm_status.specs.Update.{is_there, members_there, seen}
 use Rattle.lvm_status.specs.Runs.{IsSoundStatus}

@@ -9,7 +9,7 @@ use Rattle.lvm_vol.specs.declared.entry.Outcome.{Outcome}
 use Rattle.lvm_vol.specs.Facts.{Fact, Landed, begun}
 use Rattle.lvm_vol.specs.Log.{Log, asked, is_open, lands_id, with_fact, landed_fact, no_request, request_of, cut_log, got_without_bytes}
 use Rattle.lvm_vol.proofs.LogLemmas.{found_of, and_left}
-use Rattle.lvm_session.specs.passed.Names.{is_begun}
+use Rattle.lvm_session.specs.passed.Path.{is_begun}
 use Rattle.lvm_session.specs.declared.open.Open.{Open}
 use Rattle.lvm_session.specs.Judging.{is_waiting}
 use Rattle.lvm_session.specs.Dark.{landings, AreOpen, AreTold}

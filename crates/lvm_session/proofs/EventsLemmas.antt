@@ -5,7 +5,7 @@ use Rattle.std.specs.Option.{option_map_or}
 use Rattle.std.proofs.lemmas.List.Elements.{All-nil, All-cons, All-filter}
 use Rattle.lvm_num.specs.declared.place.Pp.{Pp}
 use Rattle.lvm_num.specs.declared.descriptor.Policy.{Policy}
-use Rattle.lvm_path.specs.passed.Names.{AreCopies, AreCopiesAbove, IsReadOrder}
+use Rattle.lvm_path.specs.passed.Sched.{AreCopies, AreCopiesAbove, IsReadOrder}
 use Rattle.lvm_session.specs.State.{Core}
 use Rattle.lvm_session.specs.Judging.{is_usable}
 use Rattle.lvm_session.specs.Events.{load_on, loads_of, usable_from}

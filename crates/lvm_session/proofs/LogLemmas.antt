@@ -5,7 +5,7 @@ use Rattle.std.specs.List.{list_any}
 use Rattle.std.proofs.lemmas.List.{append-nil}
 use Rattle.std.proofs.lemmas.List.Elements.{filter_map-append}
 use Rattle.std.proofs.lemmas.List.Folds.{list_any-append}
-use Rattle.lvm_session.proofs.passed.Names.{and_true}
+use Rattle.lvm_session.proofs.passed.Num.{and_true}
 use Rattle.lvm_vol.specs.Facts.{Request, Fact, Cut, begun_by, begun}
 use Rattle.lvm_vol.specs.Log.{Log, has_id, asked, is_open, lands_id, is_uncut, with_fact, cut_log}
 

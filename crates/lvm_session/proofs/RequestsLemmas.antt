@@ -7,7 +7,7 @@ use Rattle.lvm_num.specs.declared.descriptor.LvRow.{LvRow}
 use Rattle.lvm_num.specs.Descriptor.{volume_of}
 use Rattle.lvm_num.specs.Geometry.{volume_blocks}
 use Rattle.lvm_num.proofs.Booleans.{not_so, not_either}
-use Rattle.lvm_path.specs.passed.Names.{is_flying}
+use Rattle.lvm_path.specs.passed.Sched.{is_flying}
 use Rattle.lvm_path.specs.declared.request.Request.{Request}
 use Rattle.lvm_path.specs.declared.target.Target.{Target}
 use Rattle.lvm_path.specs.Asks.{lv_of, at_of, count_of, is_write}

@@ -1,6 +1,6 @@
 -- What is never so.
 use Rattle.std.proofs.Common.{◌≡◌, Some, None, arith}
-use Rattle.lvm_kept.specs.passed.Names.{Rose}
+use Rattle.lvm_kept.specs.passed.Disk.{Rose}
 
 -- a count that stands at 0 hasn't risen
 pub not_risen : {X : Type 0} → Rose 0 0 → X

@@ -5,7 +5,7 @@ use Rattle.lvm_num.specs.Buffer.{Buffer}
 use Rattle.lvm_num.specs.declared.place.Pp.{Pp}
 use Rattle.lvm_num.specs.Disks.{has}
 use Rattle.lvm_num.specs.Geometry.{partition_blocks}
-use Rattle.lvm_kept.specs.passed.Names.{next_id}
+use Rattle.lvm_kept.specs.passed.Vol.{next_id}
 use Rattle.lvm_num.specs.Descriptor.{is_pp}
 use Rattle.lvm_hold.specs.declared.queue.Held.{Held}
 use Rattle.lvm_hold.specs.declared.queue.Row.{Row}

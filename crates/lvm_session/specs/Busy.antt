@@ -5,12 +5,13 @@ use Rattle.lvm_num.specs.declared.place.Pp.{Pp}
 use Rattle.lvm_num.specs.declared.descriptor.Descriptor.{Descriptor}
 use Rattle.lvm_num.specs.declared.descriptor.LvRow.{LvRow}
 use Rattle.lvm_num.specs.declared.descriptor.Mode.TheVariants as mode
-use Rattle.lvm_kept.specs.passed.Names.{Device, Flight, Begun, Request as Asked}
+use Rattle.lvm_kept.specs.passed.Disk.{Device, Flight}
+use Rattle.lvm_kept.specs.passed.Vol.{Begun, Request as Asked}
 use Rattle.lvm_kept.specs.passed.VolEntryOutcome as outcome
 use Rattle.lvm_kept.specs.passed.VolEntryVol.{Lv}
 use Rattle.lvm_kept.specs.Examples.{member, mirror, group_of}
 use Rattle.lvm_mwc.specs.Cache.{no_notes}
-use Rattle.lvm_path.specs.passed.Names.{TargetState}
+use Rattle.lvm_path.specs.passed.Sched.{TargetState}
 use Rattle.lvm_path.specs.passed.SchedWritesTargetState as stage
 use Rattle.lvm_path.specs.declared.ask.Ask.{Ask}
 use Rattle.lvm_path.specs.declared.ask.Ask.TheVariants.{Read}

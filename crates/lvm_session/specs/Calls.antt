@@ -11,7 +11,8 @@ use Rattle.lvm_num.specs.Descriptor.{copies_of, member_of, partitions_used, volu
 use Rattle.lvm_num.specs.Geometry.{volume_blocks}
 use Rattle.lvm_status.specs.Calls.{BecomesStale}
 use Rattle.lvm_session.specs.declared.origin.Origin.{Origin}
-use Rattle.lvm_kept.specs.passed.Names.{Counts, Outcome, Begun, with_fact, next_id, next_request, taken_fact, spare_entries, spare_bytes, blocks_begun}
+use Rattle.lvm_kept.specs.passed.Disk.{Counts}
+use Rattle.lvm_kept.specs.passed.Vol.{Outcome, Begun, with_fact, next_id, next_request, taken_fact, spare_entries, spare_bytes, blocks_begun}
 use Rattle.lvm_kept.specs.passed.VolEntryVol.{Lv}
 use Rattle.lvm_kept.specs.passed.VolEntryOutcome as outcome
 use Rattle.lvm_path.specs.declared.ask.Ask.{Ask}

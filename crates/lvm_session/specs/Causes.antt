@@ -8,7 +8,8 @@ use Rattle.lvm_num.specs.Votes.{votes_in, is_enough_to_write}
 use Rattle.lvm_num.specs.Descriptor.{is_pp}
 use Rattle.lvm_status.specs.Update.{members_there}
 use Rattle.lvm_status.specs.Members.{HasItsRows}
-use Rattle.lvm_kept.specs.passed.Names.{Rose, Device, Outcome}
+use Rattle.lvm_kept.specs.passed.Disk.{Rose, Device}
+use Rattle.lvm_kept.specs.passed.Vol.{Outcome}
 use Rattle.lvm_kept.specs.passed.VolEntryOutcome as outcome
 use Rattle.lvm_path.specs.declared.target.Target.{Target}
 use Rattle.lvm_path.specs.Asks.{is_write}

@@ -3,7 +3,8 @@ use Rattle.std.specs.Prelude.{◌≡◌, ◌<◌, ◌&&◌, ◌++◌, Bool, true
 use Rattle.std.specs.List.{AllByRecursion}
 use Rattle.std.specs.Option.{option_map, option_map_or}
 use Rattle.lvm_num.specs.Buffer.{Buffer}
-use Rattle.lvm_kept.specs.passed.Names.{Arrange, Outcome, Fact, Log, cut_log, is_open, landed_fact}
+use Rattle.lvm_kept.specs.passed.Disk.{Arrange}
+use Rattle.lvm_kept.specs.passed.Vol.{Outcome, Fact, Log, cut_log, is_open, landed_fact}
 use Rattle.lvm_kept.specs.passed.DiskShelfArrange as arrange
 use Rattle.lvm_kept.specs.passed.VolEntryOutcome as outcome
 use Rattle.lvm_path.specs.Targets.{is_begun}

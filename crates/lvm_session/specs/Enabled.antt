@@ -7,7 +7,7 @@ use Rattle.lvm_num.specs.declared.status.Status.{Status}
 use Rattle.lvm_num.specs.declared.status.StatusRow.{StatusRow}
 use Rattle.lvm_num.specs.Disks.{has}
 use Rattle.lvm_num.specs.Votes.{is_enough_to_write}
-use Rattle.lvm_kept.specs.passed.Names.{Outcome}
+use Rattle.lvm_kept.specs.passed.Vol.{Outcome}
 use Rattle.lvm_hold.specs.Waiting.{is_blocked}
 use Rattle.lvm_mwc.specs.Entries.{are_all_pinned}
 use Rattle.lvm_mwc.specs.Cache.{Cached, flight_on, is_named}

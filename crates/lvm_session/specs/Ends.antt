@@ -5,7 +5,8 @@ use Rattle.lvm_num.specs.Buffer.{Buffer}
 use Rattle.lvm_num.specs.declared.place.Pp.{Pp}
 use Rattle.lvm_num.specs.declared.record.Kind.TheVariants as kind
 use Rattle.lvm_num.specs.Disks.{has}
-use Rattle.lvm_kept.specs.passed.Names.{Device, EndsDone, EndsFailed, Homes, Flips}
+use Rattle.lvm_kept.specs.passed.Disk.{Device, EndsDone, EndsFailed}
+use Rattle.lvm_kept.specs.passed.Rec.{Homes, Flips}
 use Rattle.lvm_hold.specs.Waiting.{without}
 use Rattle.lvm_mwc.specs.Cache.{after_end as after_note_end}
 use Rattle.lvm_status.specs.declared.change.Change.TheVariants as change

@@ -14,10 +14,12 @@ use Rattle.lvm_num.specs.Geometry.{sector_of}
 use Rattle.lvm_num.specs.Note.{note_bytes}
 use Rattle.lvm_num.specs.Record.{frame, record_sectors, slot_start}
 use Rattle.lvm_num.specs.StatusBytes.{status_bytes}
-use Rattle.lvm_kept.specs.passed.Names.{Flight, Starts, Outcome, Landed, with_fact, request_of, next_slot}
+use Rattle.lvm_kept.specs.passed.Disk.{Flight, Starts}
+use Rattle.lvm_kept.specs.passed.Vol.{Outcome, Landed, with_fact, request_of}
+use Rattle.lvm_kept.specs.passed.Rec.{next_slot}
 use Rattle.lvm_pbuf.specs.Out.{TakesLowest}
 use Rattle.lvm_hold.specs.Waiting.{without}
-use Rattle.lvm_path.specs.passed.Names.{IsReadOrder}
+use Rattle.lvm_path.specs.passed.Sched.{IsReadOrder}
 use Rattle.lvm_mwc.specs.Entries.{note_of}
 use Rattle.lvm_mwc.specs.Cache.{Cached, after_pin, after_unpin, after_start}
 use Rattle.lvm_status.specs.Update.{Stored, seen, MayStartUpdate}

@@ -1,6 +1,7 @@
 -- The buffers that requests have in hand when a session ends.
 use Rattle.std.specs.Prelude.{◌≡◌, Bool, true, false, List, [], ◌∷◌, Option, Some, None}
-use Rattle.lvm_session.specs.passed.Names.{Buffer, IsOut}
+use Rattle.lvm_session.specs.passed.Num.{Buffer}
+use Rattle.lvm_session.specs.passed.Pbuf.{IsOut}
 use Rattle.lvm_session.specs.declared.open.Open.{Open}
 use Rattle.lvm_session.specs.State.{Core}
 use Rattle.lvm_session.specs.Bringing.{with_back}

@@ -9,7 +9,7 @@ use Rattle.lvm_num.specs.Status.{calls_dirty}
 use Rattle.lvm_num.specs.Descriptor.{is_pp}
 use Rattle.lvm_num.specs.declared.status.Status.{Status}
 use Rattle.lvm_num.specs.Disks.{has}
-use Rattle.lvm_path.specs.passed.Names.{is_waiting as is_unstarted}
+use Rattle.lvm_path.specs.passed.Sched.{is_waiting as is_unstarted}
 use Rattle.lvm_mwc.specs.Cache.{flight_names, is_named}
 use Rattle.lvm_path.specs.declared.ask.Ask.{Ask}
 use Rattle.lvm_path.specs.declared.request.Phase.{Phase}

@@ -6,7 +6,7 @@ use Rattle.lvm_num.specs.declared.place.Pp.{Pp}
 use Rattle.lvm_num.specs.declared.descriptor.LvRow.{LvRow}
 use Rattle.lvm_num.specs.Descriptor.{copies_of, is_pp}
 use Rattle.lvm_num.specs.Status.{calls_stale}
-use Rattle.lvm_status.specs.passed.Names.{SameMissing}
+use Rattle.lvm_status.specs.passed.Status.{SameMissing}
 use Rattle.lvm_status.specs.declared.change.Change.TheVariants as change
 pub use Rattle.lvm_status.specs.Members.{HasSameRows}
 use Rattle.lvm_status.specs.Calls.{BecomesDirty, BecomesFresh, with_wanted}

@@ -6,8 +6,8 @@ use Rattle.lvm_num.specs.declared.status.Status.{Status}
 use Rattle.lvm_num.specs.declared.record.NoteEntry.{NoteEntry}
 use Rattle.lvm_num.specs.Disks.{has}
 use Rattle.lvm_num.specs.Note.{note_bytes}
-use Rattle.lvm_kept.specs.passed.Names.{Flight}
-use Rattle.lvm_path.specs.passed.Names.{is_flying}
+use Rattle.lvm_kept.specs.passed.Disk.{Flight}
+use Rattle.lvm_path.specs.passed.Sched.{is_flying}
 use Rattle.arrayvec.specs.ArrayVec.{ArrayVec}
 use Rattle.lvm_mwc.specs.Cache.{flight_on}
 use Rattle.lvm_path.specs.declared.target.Target.{Target}

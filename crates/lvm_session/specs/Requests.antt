@@ -8,7 +8,7 @@ use Rattle.lvm_num.specs.declared.descriptor.Mode.TheVariants as mode
 use Rattle.lvm_num.specs.Geometry.{sector_of}
 use Rattle.lvm_num.specs.Status.{calls_missing, calls_dirty}
 use Rattle.lvm_hold.specs.Conflicts.{IsInGroup}
-use Rattle.lvm_path.specs.passed.Names.{is_flying}
+use Rattle.lvm_path.specs.passed.Sched.{is_flying}
 use Rattle.lvm_path.specs.declared.ask.Ask.{Ask}
 use Rattle.lvm_path.specs.declared.request.Phase.{Phase}
 use Rattle.lvm_path.specs.declared.request.Phase.TheVariants as phase

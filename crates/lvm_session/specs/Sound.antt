@@ -9,7 +9,8 @@ use Rattle.lvm_num.specs.declared.descriptor.PvRow.{PvRow}
 use Rattle.lvm_num.specs.Status.{calls_missing, calls_stale}
 use Rattle.lvm_num.specs.Descriptor.{IsValid, is_member, member_of, partitions_used, volume_of, is_pp}
 use Rattle.lvm_num.specs.Disks.{has}
-use Rattle.lvm_kept.specs.passed.Names.{Device, Flight, Request as Asked, Fact, Making, Made, Split, Removing, Removed, Begun, Landed, Taken, Cut, On, begun, Outcome, asked, next_id, is_open, lands_id, is_answered, Ordered}
+use Rattle.lvm_kept.specs.passed.Disk.{Device, Flight}
+use Rattle.lvm_kept.specs.passed.Vol.{Request as Asked, Fact, Making, Made, Split, Removing, Removed, Begun, Landed, Taken, Cut, On, begun, Outcome, asked, next_id, is_open, lands_id, is_answered, Ordered}
 use Rattle.lvm_kept.specs.passed.VolEntryVol.{Lv}
 use Rattle.lvm_hold.specs.declared.queue.Row.{Row}
 use Rattle.lvm_mwc.specs.Entries.{AreEntries, pins_of}

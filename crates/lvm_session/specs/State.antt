@@ -3,7 +3,9 @@ use Rattle.std.specs.Prelude.{ℕ, Bool, List, Option}
 use Rattle.lvm_num.specs.declared.descriptor.Descriptor.{Descriptor}
 use Rattle.lvm_num.specs.Disks.{Disks}
 use Rattle.lvm_num.specs.Votes.{votes_in}
-use Rattle.lvm_kept.specs.passed.Names.{Device, Log, Homes}
+use Rattle.lvm_kept.specs.passed.Disk.{Device}
+use Rattle.lvm_kept.specs.passed.Vol.{Log}
+use Rattle.lvm_kept.specs.passed.Rec.{Homes}
 use Rattle.lvm_kept.specs.Moments.{Moment}
 use Rattle.lvm_hold.specs.Waiting.{Waiting}
 use Rattle.lvm_mwc.specs.Cache.{Cached}

@@ -1,6 +1,6 @@
 -- A turn: the first event that may be made, else the end of a transfer, else the end of the session.
 use Rattle.std.specs.Prelude.{◌≡◌, ◌⊎◌, ◌+◌, ◌<◌, ℕ, Bool, true, false, [], Some, None, length}
-use Rattle.lvm_kept.specs.passed.Names.{Arrange, ArrangeGives, GoesDark, Waits}
+use Rattle.lvm_kept.specs.passed.Disk.{Arrange, ArrangeGives, GoesDark, Waits}
 use Rattle.lvm_status.specs.Update.{Stored}
 use Rattle.lvm_mwc.specs.Cache.{has_disk}
 use Rattle.lvm_session.specs.declared.open.Power.TheVariants as power

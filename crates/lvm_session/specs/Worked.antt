@@ -8,7 +8,8 @@ use Rattle.lvm_num.specs.declared.descriptor.Mode.TheVariants as mode
 use Rattle.lvm_num.specs.declared.descriptor.Policy.TheVariants as policy
 use Rattle.lvm_num.specs.declared.status.Status.{Status}
 use Rattle.lvm_num.specs.Descriptor.{is_member}
-use Rattle.lvm_kept.specs.passed.Names.{Device, Flight, Outcome, Fact, Begun, Landed, Request as Asked}
+use Rattle.lvm_kept.specs.passed.Disk.{Device, Flight}
+use Rattle.lvm_kept.specs.passed.Vol.{Outcome, Fact, Begun, Landed, Request as Asked}
 use Rattle.lvm_kept.specs.passed.VolEntryOutcome as outcome
 use Rattle.lvm_kept.specs.passed.VolEntryVol.{Lv}
 use Rattle.lvm_hold.specs.declared.queue.Row.{Row}
@@ -16,7 +17,7 @@ use Rattle.lvm_kept.specs.Examples.{member, mirror, group_of, row_of, status_of_
 use Rattle.lvm_mwc.specs.declared.notes.DiskNotes.{DiskNotes}
 use Rattle.lvm_mwc.specs.Cache.{Cached, has_disk, no_notes}
 use Rattle.lvm_status.specs.declared.writes.Writes.{Writes}
-use Rattle.lvm_path.specs.passed.Names.{TargetState}
+use Rattle.lvm_path.specs.passed.Sched.{TargetState}
 use Rattle.lvm_path.specs.passed.SchedWritesTargetState as stage
 use Rattle.lvm_path.specs.declared.ask.Ask.{Ask}
 use Rattle.lvm_path.specs.declared.ask.Ask.TheVariants.{Read, Write}

@@ -4,8 +4,9 @@ use Rattle.lvm_num.specs.declared.place.Pp.{Pp}
 use Rattle.lvm_num.specs.declared.descriptor.Mode.{Mode}
 use Rattle.lvm_num.specs.declared.descriptor.Mode.TheVariants as mode
 use Rattle.lvm_hold.specs.declared.queue.Row.{Row}
-use Rattle.lvm_kept.specs.passed.Names.{Begun, Device, Flight}
-use Rattle.lvm_path.specs.passed.Names.{TargetState}
+use Rattle.lvm_kept.specs.passed.Vol.{Begun}
+use Rattle.lvm_kept.specs.passed.Disk.{Device, Flight}
+use Rattle.lvm_path.specs.passed.Sched.{TargetState}
 use Rattle.lvm_path.specs.passed.SchedWritesTargetState as stage
 use Rattle.lvm_path.specs.declared.request.Phase.TheVariants as phase
 use Rattle.lvm_path.specs.declared.target.Target.{Target}

@@ -1,2 +1,10 @@
+pub mod Disk
 pub mod DiskShelfArrange
-pub mod Names
+pub mod Hold
+pub mod Kept
+pub mod Mwc
+pub mod Num
+pub mod Path
+pub mod Pbuf
+pub mod Rec
+pub mod Status

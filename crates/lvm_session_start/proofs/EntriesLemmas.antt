@@ -7,7 +7,7 @@ use Rattle.lvm_num.specs.declared.descriptor.Descriptor.{Descriptor}
 use Rattle.lvm_num.specs.declared.record.Stamp.{Stamp}
 use Rattle.lvm_num.specs.declared.status.Status.{Status}
 use Rattle.lvm_num.specs.Descriptor.{is_member}
-use Rattle.lvm_status.specs.passed.Names.{has_row}
+use Rattle.lvm_status.specs.passed.Status.{has_row}
 use Rattle.lvm_disk.specs.Device.{Device}
 use Rattle.lvm_vol.specs.Facts.{On}
 use Rattle.lvm_vol.specs.Log.{Log}
@@ -20,7 +20,8 @@ use Rattle.lvm_status.specs.Calls.{first_updates}
 use Rattle.lvm_status.specs.Runs.{SetStamp, IsSoundStatus}
 use Rattle.lvm_status.specs.Update.{Updates, seen}
 use Rattle.lvm_status.proofs.RunsLemmas.Sound.{first_is_sound, steps_stay_sound}
-use Rattle.lvm_keeps.specs.passed.Names.{Homes, Open, Core, state, faults_at_first, IsFitting, IsSound}
+use Rattle.lvm_keeps.specs.passed.Rec.{Homes}
+use Rattle.lvm_keeps.specs.passed.Session.{Open, Core, state, faults_at_first, IsFitting, IsSound}
 use Rattle.lvm_keeps.specs.Begins.{SessionBegins}
 use Rattle.lvm_keeps.proofs.BeginsLemmas.{beginning_is_sound}
 use Rattle.lvm_keeps.proofs.SoundLemmas.Telling.{open_still}

@@ -9,7 +9,8 @@ use Rattle.lvm_vol.specs.Facts.{On}
 use Rattle.lvm_vol.specs.Log.{Log, is_open, with_fact}
 use Rattle.lvm_vol.specs.Order.{Ordered}
 use Rattle.lvm_status.specs.Update.{members_there}
-use Rattle.lvm_keeps.specs.passed.Names.{Homes, Core, is_entailed, updates_left, ArePlaced, HasPower}
+use Rattle.lvm_keeps.specs.passed.Rec.{Homes}
+use Rattle.lvm_keeps.specs.passed.Session.{Core, is_entailed, updates_left, ArePlaced, HasPower}
 use Rattle.lvm_keeps.specs.passed.SessionOpenPower as power
 use Rattle.lvm_session_start.specs.declared.parts.Parts.{Parts}
 use Rattle.lvm_session_start.specs.Parts.{IsOneGroup, IsReserved, IsSessionRoom}

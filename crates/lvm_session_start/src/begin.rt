@@ -1,7 +1,7 @@
 //! A session begins with its parts.
 ghost use Rattle.std.specs.Prelude.{◌≡◌, ◌≤◌, vec_capacity};
 ghost use Rattle.lvm_vol.specs.Log.{spare_entries};
-ghost use Rattle.lvm_keeps.specs.passed.Names.{core_of, HasRooms, state, IsSound};
+ghost use Rattle.lvm_keeps.specs.passed.Session.{core_of, HasRooms, state, IsSound};
 ghost use Rattle.lvm_session_start.specs.Beginning.{AreFaults, MayBeginSession, first_core, with_parts};
 ghost use Rattle.lvm_session_start.specs.Parts.{IsReserved};
 

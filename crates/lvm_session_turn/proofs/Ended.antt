@@ -24,11 +24,11 @@ use Rattle.lvm_session.specs.Bringing.{hand_of}
 use Rattle.lvm_session.specs.Calls.{copy_at}
 use Rattle.lvm_session.specs.Dark.{hand_of_copy}
 use Rattle.lvm_session.specs.Marks.{is_among}
-use Rattle.lvm_moves.specs.passed.Names.{IsOutIf}
+use Rattle.lvm_moves.specs.passed.Session.{IsOutIf}
 use Rattle.lvm_session.specs.Owners.{flies, same_owner}
 use Rattle.lvm_session.specs.Sound.{IsCopy, count_if, is_hand}
 use Rattle.lvm_session.proofs.MovesLemmas.{move_of, move_partition, stale_of}
-use Rattle.lvm_moves.proofs.passed.Names.{copies_in_are}
+use Rattle.lvm_moves.proofs.passed.Due.{copies_in_are}
 use Rattle.lvm_moves.proofs.OutLemmas.{at_most_one, get_other, is_out as out_of}
 use Rattle.lvm_session_turn.specs.Learning.{MayReturn}
 use Rattle.lvm_calls.specs.Ending.{CanEnd}

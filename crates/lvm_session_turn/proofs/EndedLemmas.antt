@@ -26,9 +26,9 @@ use Rattle.lvm_session.specs.Judging.{copies_for, is_waiting, lp_of}
 use Rattle.lvm_session.specs.Bringing.{hand_of, with_back}
 use Rattle.lvm_session.specs.Dark.{IsAscending}
 use Rattle.lvm_session.specs.Ends.{after_data, given_back, keeps_buffer, learned}
-use Rattle.lvm_moves.specs.passed.Names.{IsOutIf}
+use Rattle.lvm_moves.specs.passed.Session.{IsOutIf}
 use Rattle.lvm_calls.specs.Due.{MayMark}
-use Rattle.lvm_moves.proofs.passed.Names.{copies_in_are, at_place}
+use Rattle.lvm_moves.proofs.passed.Due.{copies_in_are, at_place}
 use Rattle.lvm_calls.specs.Ending.{CanEnd, MayEndCopy}
 use Rattle.lvm_session.specs.Owners.{target_flies}
 use Rattle.lvm_session.specs.Requests.{IsAimed, IsOpenOne, IsTarget}

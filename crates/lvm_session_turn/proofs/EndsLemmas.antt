@@ -29,8 +29,10 @@ use Rattle.lvm_session.specs.Judging.{copies_in, is_running}
 use Rattle.lvm_session.specs.Bringing.{hand_of, is_out, is_whole, marked_by_end, step_place, with_end, is_held_stale}
 use Rattle.lvm_session.specs.Ends.{CopyLearns, FailsCopy, CopyStepsOn, PassesGroup, StepLearns, StepLeaves, after_quit, with_copy, with_return, without_step}
 use Rattle.lvm_session.specs.Marks.{Reviews, WantsStale}
-use Rattle.lvm_session_turn.proofs.passed.Names.{same_due, copies_in_are, place_of, markable}
-use Rattle.lvm_session_turn.specs.passed.Names.{IsOutIf, CanEnd, MayEndCopy, IsLocated, MayReview}
+use Rattle.lvm_session_turn.proofs.passed.Calls.{same_due, markable}
+use Rattle.lvm_session_turn.proofs.passed.Due.{copies_in_are, place_of}
+use Rattle.lvm_session_turn.specs.passed.Session.{IsOutIf}
+use Rattle.lvm_session_turn.specs.passed.Calls.{CanEnd, MayEndCopy, IsLocated, MayReview}
 use Rattle.lvm_session.specs.Sound.{IsCopy, IsReadFrom}
 use Rattle.lvm_session_turn.specs.Ended.{TransferHasEnded}
 use Rattle.lvm_session_turn.proofs.Ended.{among_all, its_copy, its_place, was_out}

@@ -12,7 +12,7 @@ use Rattle.lvm_session.specs.Judging.{is_running}
 use Rattle.lvm_session.specs.Bringing.{hand_of, with_back}
 use Rattle.lvm_session.specs.Dark.{hand_of_copy}
 use Rattle.lvm_moves.proofs.OutLemmas.{may_end}
-use Rattle.lvm_moves.specs.passed.Names.{AreInHand, IsOutIf, MayEnd}
+use Rattle.lvm_moves.specs.passed.Session.{AreInHand, IsOutIf, MayEnd}
 use Rattle.lvm_session.specs.Causes.{is_over}
 use Rattle.lvm_session.specs.Requests.{IsLanded}
 use Rattle.lvm_session.specs.Sound.{IsOver, IsSound, IsUnbegun}

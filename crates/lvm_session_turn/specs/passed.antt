@@ -1,1 +1,3 @@
-pub mod Names
+pub mod Calls
+pub mod Due
+pub mod Session

@@ -7,7 +7,7 @@ ghost use Rattle.lvm_session.specs.State.{state};
 ghost use Rattle.lvm_session.specs.Ends.{Learns};
 ghost use Rattle.lvm_session.specs.Turns.{FinishMakes};
 ghost use Rattle.lvm_session.specs.Sound.{IsGoing, IsSound};
-ghost use Rattle.lvm_moves.specs.passed.Names.{IsDue};
+ghost use Rattle.lvm_moves.specs.passed.Due.{IsDue};
 ghost use Rattle.lvm_session_turn.specs.Ended.{TransferHasEnded};
 ghost use Rattle.lvm_session_turn.specs.Finishing.{Rests};
 

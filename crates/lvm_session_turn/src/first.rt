@@ -7,7 +7,7 @@ ghost use Rattle.lvm_session.specs.Fields.{core_of};
 ghost use Rattle.lvm_session.specs.Rooms.{HasRooms, SameRooms};
 ghost use Rattle.lvm_session.specs.State.{state};
 ghost use Rattle.lvm_session.specs.Sound.{IsGoing, IsSound};
-ghost use Rattle.lvm_moves.specs.passed.Names.{IsDue};
+ghost use Rattle.lvm_moves.specs.passed.Due.{IsDue};
 ghost use Rattle.lvm_moves.specs.Launching.{StartGives};
 ghost use Rattle.lvm_moves.specs.Starts.{CanStart, StartsFirst};
 ghost use Rattle.lvm_session_turn.specs.Taking.{FirstMakes};

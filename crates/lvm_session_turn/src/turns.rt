@@ -6,7 +6,7 @@ ghost use Rattle.lvm_session.specs.Rooms.{HasRooms, SameRooms};
 ghost use Rattle.lvm_session.specs.State.{state};
 ghost use Rattle.lvm_session.specs.Turns.{OnMakes, TurnMakes};
 ghost use Rattle.lvm_session.specs.Sound.{IsSound};
-ghost use Rattle.lvm_moves.specs.passed.Names.{IsDue};
+ghost use Rattle.lvm_moves.specs.passed.Due.{IsDue};
 
 use crate::ending::finish;
 use crate::first::make_first;

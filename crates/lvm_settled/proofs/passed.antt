@@ -1,1 +1,3 @@
-pub mod Names
+pub mod Core
+pub mod Even
+pub mod Rest

@@ -7,7 +7,7 @@ use Rattle.lvm_disk.specs.Device.{IsReady}
 use Rattle.lvm_vol.specs.Facts.{Made, Split}
 use Rattle.lvm_vol.specs.Log.{Log, with_fact}
 use Rattle.lvm_session.specs.State.{Core, State}
-use Rattle.lvm_volume_plan.specs.passed.Names.{FindsOnly, IsSettled, NoDescriptor, NoPartition, Scope}
+use Rattle.lvm_volume_plan.specs.passed.Core.{FindsOnly, IsSettled, NoDescriptor, NoPartition, Scope}
 use Rattle.lvm_volume_plan.specs.declared.fault.GroupFault.{GroupFault}
 use Rattle.lvm_volume_plan.specs.declared.fault.GroupFault.TheVariants as fault
 use Rattle.lvm_volume_plan.specs.declared.split.SplitPlan.{SplitPlan}

@@ -8,7 +8,7 @@ use Rattle.lvm_disk.specs.Device.{IsReady}
 use Rattle.lvm_vol.specs.Facts.{Made}
 use Rattle.lvm_vol.specs.Log.{Log, with_fact}
 use Rattle.lvm_session.specs.State.{Core, State}
-use Rattle.lvm_volume_plan.specs.passed.Names.{NoPartition, Scope}
+use Rattle.lvm_volume_plan.specs.passed.Core.{NoPartition, Scope}
 use Rattle.lvm_volume_plan.specs.declared.fault.GroupFault.{GroupFault}
 use Rattle.lvm_volume_plan.specs.declared.fault.GroupFault.TheVariants as fault
 use Rattle.lvm_volume_plan.specs.Faults.{RefusesFor}

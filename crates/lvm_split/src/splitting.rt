@@ -1,7 +1,7 @@
 //! A volume is split: of each logical partition it keeps some copies, and the others become a volume of their own.
 ghost use Rattle.std.specs.Prelude.{IfOk, IfErr};
 ghost use Rattle.lvm_num.specs.declared.descriptor.LvRow.{LvRow};
-ghost use Rattle.lvm_volume_plan.specs.passed.Names.{state_of, Leaves, IsSettled};
+ghost use Rattle.lvm_volume_plan.specs.passed.Core.{state_of, Leaves, IsSettled};
 ghost use Rattle.lvm_volume_plan.specs.Faults.{TakesCommands, IfOn};
 ghost use Rattle.lvm_volume_plan.specs.Split.{MayServeBoth, RefusesCopies};
 ghost use Rattle.lvm_volumes.specs.Endings.{StillHeld, KeepsFresh};

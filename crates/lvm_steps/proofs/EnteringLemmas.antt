@@ -10,7 +10,7 @@ use Rattle.lvm_vol.specs.declared.entry.Vol.TheVariants.{Lv}
 use Rattle.lvm_vol.specs.Facts.{Request, Fact, Making, Made, Split, Removing, Removed, Begun, Landed, Taken, Cut, On, same_vol, is_over, block_of}
 use Rattle.lvm_vol.specs.May.{Known, known, is_open_in, ended, read, landed, source, change}
 use Rattle.lvm_vol.proofs.LawsLemmas.Knowing.{ended_open, read_open}
-use Rattle.lvm_kept.specs.passed.Names.{Image, image_of}
+use Rattle.lvm_kept.specs.passed.Disk.{Image, image_of}
 use Rattle.lvm_kept.specs.Contents.{contents_of}
 use Rattle.lvm_kept.specs.Moments.{Calm}
 use Rattle.lvm_kept.specs.Torn.{written as as_read, Alone}

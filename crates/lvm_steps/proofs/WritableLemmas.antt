@@ -7,7 +7,8 @@ use Rattle.lvm_num.specs.Record.{slot_start, slot_size}
 use Rattle.lvm_num.specs.Torn.{CarriesStamp}
 use Rattle.lvm_num.proofs.RecordLemmas.Records.{joined-same}
 use Rattle.lvm_num.proofs.TornLemmas.Torn.{sectors-fit}
-use Rattle.lvm_kept.specs.passed.Names.{held, slot_of, slot_to_write, slot_for, Image}
+use Rattle.lvm_kept.specs.passed.Rec.{held, slot_of, slot_to_write, slot_for}
+use Rattle.lvm_kept.specs.passed.Disk.{Image}
 use Rattle.lvm_kept.specs.Contents.{note_sector}
 use Rattle.lvm_kept.specs.Plans.{ChangesBy}
 use Rattle.lvm_kept.specs.Torn.{IsOutsideSlots, IsOfNote, IsOfRecord}

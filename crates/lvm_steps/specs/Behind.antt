@@ -4,7 +4,8 @@ use Rattle.lvm_num.specs.declared.record.Stamp.{Stamp}
 use Rattle.lvm_num.specs.declared.record.Kind.{Kind}
 use Rattle.lvm_num.specs.Record.{slot_start}
 use Rattle.lvm_num.specs.Torn.{AllBefore}
-use Rattle.lvm_kept.specs.passed.Names.{Device, Image, image_of, Fact, IsLater}
+use Rattle.lvm_kept.specs.passed.Disk.{Device, Image, image_of}
+use Rattle.lvm_kept.specs.passed.Vol.{Fact, IsLater}
 use Rattle.lvm_kept.specs.Contents.{has_records}
 
 -- Each sector of a slot that carries its kind's magic has a stamp before this one.

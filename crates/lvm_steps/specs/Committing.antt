@@ -12,7 +12,7 @@ use Rattle.lvm_vol.specs.declared.entry.Vol.TheVariants.{Lv}
 use Rattle.lvm_vol.specs.Facts.{Fact, Cut}
 use Rattle.lvm_vol.specs.May.{known}
 use Rattle.lvm_vol.specs.Standing.{volumes_in}
-use Rattle.lvm_kept.specs.passed.Names.{Device, image_of, DeviceStep, Path}
+use Rattle.lvm_kept.specs.passed.Disk.{Device, image_of, DeviceStep, Path}
 use Rattle.lvm_kept.specs.Contents.{Contents, contents_of}
 use Rattle.lvm_kept.specs.Group.{IsFound, members_in, status_by, ReadsGroup, fresh_on, IsBlockOf, IsOneOf, IsSome}
 use Rattle.lvm_kept.specs.Committed.{IsWithinDisks}

@@ -10,7 +10,7 @@ use Rattle.lvm_vol.specs.declared.entry.Outcome.{Outcome}
 use Rattle.lvm_vol.specs.Facts.{Request, Fact, Making, Made, Removing, Removed, Begun}
 use Rattle.lvm_vol.specs.Legal.{Fits}
 use Rattle.lvm_vol.specs.Standing.{Open, volumes_in}
-use Rattle.lvm_kept.specs.passed.Names.{Image, Device, image_of, MayLeave}
+use Rattle.lvm_kept.specs.passed.Disk.{Image, Device, image_of, MayLeave}
 use Rattle.lvm_kept.specs.Contents.{contents_of}
 use Rattle.lvm_kept.specs.Changes.{IsFoundByAll, IsFoundByNone}
 use Rattle.lvm_kept.specs.Moments.{Moment, StaysCalm}

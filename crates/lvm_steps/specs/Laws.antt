@@ -7,7 +7,9 @@ use Rattle.lvm_num.specs.declared.status.Status.{Status}
 use Rattle.lvm_num.specs.Buffer.{Sector}
 use Rattle.lvm_num.specs.Geometry.{data_start}
 use Rattle.lvm_num.specs.Record.{Frames, Stamped, stamp_lt}
-use Rattle.lvm_kept.specs.passed.Names.{BothBefore, Media, Image, Flight, Device, SameDisks, image_of, written, IsInFlight, MayLeave, HasSectors, IsWholeImage, LeavesNoMore, BothTold, Fact, On, Removed, joined, IsLater}
+use Rattle.lvm_kept.specs.passed.Rec.{BothBefore}
+use Rattle.lvm_kept.specs.passed.Disk.{Media, Image, Flight, Device, SameDisks, image_of, written, IsInFlight, MayLeave, HasSectors, IsWholeImage, LeavesNoMore, BothTold}
+use Rattle.lvm_kept.specs.passed.Vol.{Fact, On, Removed, joined, IsLater}
 use Rattle.lvm_kept.specs.passed.VolEntryVol.{Disk}
 use Rattle.lvm_kept.specs.Contents.{Contents, contents_of, has_records, note_sector}
 use Rattle.lvm_kept.specs.Plans.{Plan, ChangesBy, IsUnderWay}

@@ -12,7 +12,7 @@ use Rattle.lvm_num.specs.Record.{Stamped}
 use Rattle.lvm_vol.specs.declared.entry.Vol.TheVariants.{Disk}
 use Rattle.lvm_vol.specs.Facts.{Fact, Removed, On}
 use Rattle.lvm_vol.specs.Legal.{IsLater}
-use Rattle.lvm_kept.specs.passed.Names.{Media, Image, Flight, Device, image_of, MayLeave, DeviceStep, Path}
+use Rattle.lvm_kept.specs.passed.Disk.{Media, Image, Flight, Device, image_of, MayLeave, DeviceStep, Path}
 use Rattle.lvm_kept.specs.Contents.{Contents, contents_of}
 use Rattle.lvm_kept.specs.Kept.{Kept}
 use Rattle.lvm_kept.specs.Plans.{ChangesBy, IsUnderWay, IsPlanned}

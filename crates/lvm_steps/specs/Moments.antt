@@ -1,6 +1,6 @@
 -- Moments of a run at which each crash image is kept with the history, disks of groups and disks in no group alike.
 use Rattle.std.specs.Prelude.{◌≡◌, ◌≤◌, ℕ, ◌++◌, List, [], ◌∷◌, map, Some, IsSome, count_by}
-use Rattle.lvm_kept.specs.passed.Names.{Media, Image, Device, image_of, MayLeave, LeavesNoMore, DeviceStep, Path}
+use Rattle.lvm_kept.specs.passed.Disk.{Media, Image, Device, image_of, MayLeave, LeavesNoMore, DeviceStep, Path}
 use Rattle.lvm_vol.specs.declared.entry.Vol.TheVariants.{Disk}
 use Rattle.lvm_vol.specs.Facts.{Fact, Removed, On, joined}
 use Rattle.lvm_vol.specs.Legal.{Legal, Fits, IsLater, begins_in}

@@ -2,7 +2,7 @@
 use Rattle.std.specs.Prelude.{◌≡◌, ◌<◌, ◌≤◌, ◌+◌, ◌++◌, ◌∷◌, ℕ, Bool, true, false, List, [], Some, None, IfSome, count_by, length, take}
 use Rattle.lvm_num.specs.Buffer.{Buffer, Sector}
 use Rattle.lvm_num.specs.Geometry.{data_start}
-use Rattle.lvm_kept.specs.passed.Names.{Media, Image, Flight, Device, image_of, written, MayLeave, LeavesNoMore, BothTold, Puts, PutsSome, ReadsRange, IsRange, DeviceStep, Path}
+use Rattle.lvm_kept.specs.passed.Disk.{Media, Image, Flight, Device, image_of, written, MayLeave, LeavesNoMore, BothTold, Puts, PutsSome, ReadsRange, IsRange, DeviceStep, Path}
 use Rattle.lvm_vol.specs.declared.entry.Outcome.{Outcome}
 use Rattle.lvm_vol.specs.declared.entry.Outcome.TheVariants as outcome
 use Rattle.lvm_vol.specs.Facts.{Request, Fact, Begun, Landed, Taken, Cut}

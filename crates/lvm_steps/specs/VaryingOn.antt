@@ -15,7 +15,7 @@ use Rattle.lvm_num.specs.Record.{Stamped, stamp_lt}
 use Rattle.lvm_num.specs.Status.{calls_stale, calls_dirty}
 use Rattle.lvm_vol.specs.Facts.{Fact, On}
 use Rattle.lvm_vol.specs.Legal.{IsLater}
-use Rattle.lvm_kept.specs.passed.Names.{Device, image_of, DeviceStep, Path}
+use Rattle.lvm_kept.specs.passed.Disk.{Device, image_of, DeviceStep, Path}
 use Rattle.lvm_kept.specs.Contents.{Contents, contents_of}
 use Rattle.lvm_kept.specs.Group.{passes, is_of, is_voter, status_among, Finds, IsFound, members_in, fresh, IsOneOf, IsSome}
 use Rattle.lvm_kept.specs.Committed.{IsWithinDisks}

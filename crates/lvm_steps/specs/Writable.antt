@@ -4,7 +4,7 @@ use Rattle.lvm_num.specs.declared.record.Kind.{Kind}
 use Rattle.lvm_num.specs.Buffer.{Sector}
 use Rattle.lvm_num.specs.Disks.{Disks}
 use Rattle.lvm_num.specs.Record.{Frames}
-use Rattle.lvm_kept.specs.passed.Names.{Image}
+use Rattle.lvm_kept.specs.passed.Disk.{Image}
 use Rattle.lvm_kept.specs.Plans.{ChangesBy}
 use Rattle.lvm_kept.specs.Torn.{RecordWrite, MayWriteAll, IsOutsideSlots, IsOfNote, IsOfRecord}
 

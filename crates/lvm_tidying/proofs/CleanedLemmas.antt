@@ -18,7 +18,7 @@ use Rattle.lvm_kept.specs.Group.{members_in, is_stale_by, fresh_on, block_at, Is
 use Rattle.lvm_kept.proofs.GroupLemmas.{still_finds, finds_before}
 use Rattle.lvm_commit.specs.Committed.{AreOne, MayMark, ShowsCommitted}
 use Rattle.lvm_even.proofs.Lists.{left_of, right_of, both_of, not_so, of_passing}
-use Rattle.lvm_commit.proofs.passed.Names.{clash}
+use Rattle.lvm_commit.proofs.passed.Steps.{clash}
 use Rattle.lvm_even.specs.Even.{IsEven, MissingAreStale}
 use Rattle.lvm_even.proofs.Rows.{at_passing}
 use Rattle.lvm_tidying.specs.Cleaned.{CleaningIsMarking, MarkingStays, CleanedMayClean, CleanedShows}

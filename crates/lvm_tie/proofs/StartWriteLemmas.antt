@@ -36,7 +36,7 @@ use Rattle.lvm_session.specs.Judging.{copies_for, group_in, group_of, mode_of, i
 use Rattle.lvm_session.specs.Enabled.{target_due, target_next}
 use Rattle.lvm_invariant.specs.State.{Stage, Todo, Ready, Groups, Marks, Queued, ModelState, is_usable as sees_usable, is_settled_stale, HasPassed}
 use Rattle.lvm_invariant.specs.StartWrite.{MayStartWrite}
-use Rattle.lvm_keeps_events.proofs.passed.Names.{first_start_is_noted}
+use Rattle.lvm_keeps_events.proofs.passed.Keeps.{first_start_is_noted}
 use Rattle.lvm_num.specs.Descriptor.{is_pp}
 use Rattle.lvm_num.proofs.Booleans.{clash_gives}
 use Rattle.lvm_session.specs.Marks.{is_among}

@@ -12,7 +12,7 @@ use Rattle.lvm_kept.specs.Contents.{Contents, contents_of}
 use Rattle.lvm_kept.specs.Group.{is_named}
 use Rattle.lvm_kept.specs.Moments.{Calm, Moment, StaysCalm}
 use Rattle.lvm_steps.specs.Moments.{HistoryHolds, Keeps}
-use Rattle.lvm_tie.specs.passed.Names.{HoldsCommitted, ShowsCommitted, IsOneFoundOn}
+use Rattle.lvm_tie.specs.passed.Commit.{HoldsCommitted, ShowsCommitted, IsOneFoundOn}
 use Rattle.lvm_mwc.specs.Cache.{flight_on, is_named as is_named_by}
 use Rattle.lvm_rec.specs.declared.homes.Homes.{Homes}
 use Rattle.lvm_session.specs.declared.open.Power.TheVariants as power

@@ -1,1 +1,5 @@
-pub mod Names
+pub mod Commit
+pub mod Crash
+pub mod Even
+pub mod KeepsEvents
+pub mod Rest

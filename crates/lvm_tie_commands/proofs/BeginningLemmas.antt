@@ -17,8 +17,9 @@ use Rattle.lvm_steps.specs.Moments.{RunBegins, HistoryHolds, Upholds}
 use Rattle.lvm_status.specs.Update.{Updates}
 use Rattle.lvm_commit.specs.LawsOfVolumes.{IsOneFoundOn}
 use Rattle.lvm_session.specs.State.{Core, State, is_there}
-use Rattle.lvm_handover.specs.passed.Names.{moment_of, NotesAreHome}
-use Rattle.lvm_handover.proofs.passed.Names.{empty_names_none, quiet_dirty_is_even}
+use Rattle.lvm_handover.specs.passed.Core.{moment_of, NotesAreHome}
+use Rattle.lvm_handover.proofs.passed.Core.{empty_names_none}
+use Rattle.lvm_handover.proofs.passed.Tidying.{quiet_dirty_is_even}
 use Rattle.lvm_mwc.specs.Cache.{is_named as is_named_by}
 use Rattle.lvm_kept.proofs.CommittedLemmas.Finding.{images_within}
 use Rattle.lvm_steps.proofs.MakingLemmas.Making.{media_may}
@@ -26,7 +27,7 @@ use Rattle.lvm_tie.specs.Spares.{SparesDescriptors}
 use Rattle.lvm_tie.specs.Tied.{IsTied}
 use Rattle.lvm_tie.specs.Begins.{shown_to}
 use Rattle.lvm_handover.specs.passed.Varyon.{DirtyAreEqual}
-use Rattle.lvm_varyon.specs.passed.Names.{DirtyAreOne}
+use Rattle.lvm_varyon.specs.passed.Tidying.{DirtyAreOne}
 use Rattle.lvm_tie_commands.specs.Beginning.{HasBegun, MadeStands, VariedOnStands}
 use Rattle.lvm_tie_commands.proofs.MomentsLemmas.{calm_at}
 use Rattle.lvm_tie_commands.proofs.Resting.{landed}

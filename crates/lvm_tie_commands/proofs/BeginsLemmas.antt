@@ -20,9 +20,9 @@ use Rattle.lvm_commit.specs.LawsOfVolumes.{IsOneFoundOn}
 use Rattle.lvm_commit.proofs.LawsLemmas.Found.{shows_group}
 use Rattle.lvm_session.specs.State.{Core, State, is_there}
 use Rattle.lvm_session.specs.Sound.{IsSound}
-use Rattle.lvm_handover.specs.passed.Names.{IsSettled}
-use Rattle.lvm_settled.specs.passed.Names.{IsEven, MissingAreStale}
-use Rattle.lvm_settled.proofs.passed.Names.{none_is_left_behind}
+use Rattle.lvm_handover.specs.passed.Core.{IsSettled}
+use Rattle.lvm_settled.specs.passed.Even.{IsEven, MissingAreStale}
+use Rattle.lvm_settled.proofs.passed.Even.{none_is_left_behind}
 use Rattle.lvm_tie.specs.Spares.{SparesDescriptors}
 use Rattle.lvm_tie.specs.Tied.{IsTied, moment_of}
 use Rattle.lvm_tie.specs.Begins.{NotesAreHomeIn, MembersShow, StandsAtRest, shown_to}

@@ -8,11 +8,11 @@ use Rattle.lvm_num.specs.Descriptor.{IsValid}
 use Rattle.lvm_status.specs.Calls.{IsMarkable}
 use Rattle.lvm_status.specs.Members.{HasItsRows}
 use Rattle.lvm_session.specs.State.{Core, State, is_there}
-use Rattle.lvm_tie_commands.specs.passed.Names.{AreUnused}
-use Rattle.lvm_tie_commands.proofs.passed.Names.{unused_markable}
-use Rattle.lvm_volumes.specs.passed.Names.{further_copies, with_copies, with_map}
+use Rattle.lvm_tie_commands.specs.passed.Core.{AreUnused}
+use Rattle.lvm_tie_commands.proofs.passed.Core.{unused_markable}
+use Rattle.lvm_volumes.specs.passed.VolumePlan.{further_copies, with_copies, with_map}
 use Rattle.lvm_volumes.proofs.passed.CopyPlanCopiesLemmasMore as more
-use Rattle.lvm_volumes.proofs.passed.Names.{named}
+use Rattle.lvm_volumes.proofs.passed.VolumePlan.{named}
 use Rattle.lvm_volumes.specs.Mirrors.{AreAdded}
 use Rattle.lvm_tie_commands.proofs.CopiesLemmas.Adding.{no_volume}
 

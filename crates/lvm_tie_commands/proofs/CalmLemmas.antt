@@ -9,9 +9,9 @@ use Rattle.lvm_vol.specs.Log.{asked, has_id, lands_id}
 use Rattle.lvm_vol.specs.Order.{Ordered}
 use Rattle.lvm_vol.proofs.FactsLemmas.Order.{IsNumbered, numbered, stands_begun}
 use Rattle.lvm_kept.specs.Moments.{Calm}
-use Rattle.lvm_tie.specs.passed.Names.{AllLand}
-use Rattle.lvm_tie.proofs.passed.Names.{landed_are_closed}
-use Rattle.lvm_settled.specs.passed.Names.{HaveAllLanded}
+use Rattle.lvm_tie.specs.passed.Rest.{AllLand}
+use Rattle.lvm_tie.proofs.passed.Rest.{landed_are_closed}
+use Rattle.lvm_settled.specs.passed.Core.{HaveAllLanded}
 
 -- a request that stands there is found by its number
 is_found : (rs : List Request) (r : Request) → IsInList r rs → is_some (find (has_id r.id) rs) ≡ true

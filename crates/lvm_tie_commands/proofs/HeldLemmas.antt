@@ -13,8 +13,8 @@ use Rattle.lvm_commit.specs.LawsOfVolumes.{IsOneFoundOn, IsOnlyGroupOn}
 use Rattle.lvm_commit.proofs.LawsOfVolumesLemmas.Others.{one_found_is_only_since}
 use Rattle.lvm_commit.proofs.LawsOfDataLemmas.Still.{still_holds_committed}
 use Rattle.lvm_session.specs.State.{State, is_there}
-use Rattle.lvm_handover.specs.passed.Names.{AreNotesHome, IsHeld, NotesAreHome, StartsHeld, IsSettled}
-use Rattle.lvm_settled.specs.passed.Names.{IsEven}
+use Rattle.lvm_handover.specs.passed.Core.{AreNotesHome, IsHeld, NotesAreHome, StartsHeld, IsSettled}
+use Rattle.lvm_settled.specs.passed.Even.{IsEven}
 use Rattle.lvm_volumes.proofs.EvenLemmas.Off.{off_is_even}
 use Rattle.lvm_tie.specs.Spares.{SparesDescriptors, SparesOn}
 use Rattle.lvm_tie.specs.Tied.{IsTied}

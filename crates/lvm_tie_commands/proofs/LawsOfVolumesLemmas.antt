@@ -8,7 +8,7 @@ use Rattle.lvm_kept.specs.Group.{IsFound, IsOneFound, IsOnlyGroup}
 use Rattle.lvm_commit.specs.LawsOfVolumes.{IsOneFoundOn, IsOnlyGroupOn}
 use Rattle.lvm_commit.proofs.LawsOfFindingLemmas.NoMore.{data_finds_nothing_new}
 use Rattle.lvm_commit.proofs.LawsOfDataLemmas.Still.{still_image}
-use Rattle.lvm_settled.specs.passed.Names.{IsAlone}
+use Rattle.lvm_settled.specs.passed.Even.{IsAlone}
 
 only_is_one : (c : Contents) (id : ℕ) → IsOnlyGroup c id → IsOneFound c
 only_is_one c id only v w g h of_v of_w = only v g of_v ∙ sym (only w h of_w)

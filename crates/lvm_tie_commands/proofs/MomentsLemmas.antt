@@ -18,8 +18,8 @@ use Rattle.lvm_vol.proofs.FactsLemmas.Order.{IsNumbered, any-push, numbered, sta
 use Rattle.lvm_kept.specs.Moments.{Calm, Enters, Moment, Moves, Step}
 use Rattle.lvm_kept.proofs.MomentsLemmas.Chaining.{span_told}
 use Rattle.lvm_steps.specs.Moments.{RunBegins, HistoryHolds, Keeps, Upholds}
-use Rattle.lvm_settled.proofs.passed.Names.{landed_are_closed}
-use Rattle.lvm_handover.specs.passed.Names.{HaveAllLanded}
+use Rattle.lvm_settled.proofs.passed.Rest.{landed_are_closed}
+use Rattle.lvm_handover.specs.passed.Core.{HaveAllLanded}
 
 -- ---- what a span enters
 

@@ -3,7 +3,7 @@ use Rattle.std.proofs.Common.{◌≡◌, List, [], ap, ◌∙◌}
 use Rattle.lvm_session.specs.State.{State}
 use Rattle.lvm_session.specs.Sound.{IsGoing, IsSound, waits}
 use Rattle.lvm_session.specs.declared.open.Open.{Open}
-use Rattle.lvm_handover.specs.passed.Names.{IsSettled, HaveAllLanded}
+use Rattle.lvm_handover.specs.passed.Core.{IsSettled, HaveAllLanded}
 use Rattle.lvm_commit.specs.Settling.{NoneIsLeft}
 use Rattle.lvm_handover.proofs.SoundLemmas.{rest_is_still}
 use Rattle.lvm_handover.proofs.NoneLeftLemmas.{none_left}

@@ -1,7 +1,9 @@
+pub mod Core
 pub mod Group
 pub mod Handover
-pub mod Names
+pub mod KeepsEvents
+pub mod Posts
 pub mod Ranges
+pub mod Tie
 pub mod Varyon
 pub mod Volumes
-pub mod Tie

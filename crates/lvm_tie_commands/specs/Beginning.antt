@@ -8,7 +8,7 @@ use Rattle.lvm_steps.specs.Moments.{Keeps}
 use Rattle.lvm_commit.specs.LawsOfVolumes.{IsOneFoundOn}
 use Rattle.lvm_session.specs.State.{State}
 use Rattle.lvm_session.specs.Sound.{IsSound}
-use Rattle.lvm_handover.specs.passed.Names.{Room, moment_of, StartsHeld, IsSettled}
+use Rattle.lvm_handover.specs.passed.Core.{Room, moment_of, StartsHeld, IsSettled}
 use Rattle.lvm_handover.specs.passed.Varyon.{ComesOn, DirtyAreEqual}
 use Rattle.lvm_handover.specs.passed.Group.{IsMade, NewGroup}
 use Rattle.lvm_handover.specs.passed.Going.{IsStamped}

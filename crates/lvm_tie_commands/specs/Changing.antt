@@ -6,8 +6,9 @@ use Rattle.lvm_kept.specs.Moments.{Moment}
 use Rattle.lvm_steps.specs.Moments.{RunBegins, Keeps}
 use Rattle.lvm_session.specs.State.{State, moment_of}
 use Rattle.lvm_session.specs.Sound.{IsSound}
-use Rattle.lvm_volume_plan.specs.passed.Names.{MayBeFound, IsSettled}
-use Rattle.lvm_members.specs.passed.Names.{with_quorum, as_big, ChangeLeaves, IsNext}
+use Rattle.lvm_volume_plan.specs.passed.Core.{MayBeFound, IsSettled}
+use Rattle.lvm_members.specs.passed.Change.{with_quorum, as_big}
+use Rattle.lvm_members.specs.passed.Turnover.{ChangeLeaves, IsNext}
 use Rattle.lvm_volumes.specs.Endings.{StillHeld, KeepsFresh}
 use Rattle.lvm_members.specs.declared.fault.RuleFault.{RuleFault}
 use Rattle.lvm_members.specs.Commands.{RuleGives, BigGives, IfOn}

@@ -12,11 +12,11 @@ use Rattle.lvm_steps.specs.Behind.{ClockIsAhead}
 use Rattle.lvm_commit.specs.LawsOfVolumes.{IsOneFoundOn}
 use Rattle.lvm_session.specs.State.{State, is_there}
 use Rattle.lvm_session_start.specs.Beginning.{AreFaults}
-use Rattle.lvm_settled.specs.passed.Names.{Room, BringsOn, IsStarted, NotesAreHome, IsSoundAtRest, IsRoom}
+use Rattle.lvm_settled.specs.passed.Core.{Room, BringsOn, IsStarted, NotesAreHome, IsSoundAtRest, IsRoom}
 use Rattle.lvm_varyon.specs.Varied.{ComesOn, DirtyAreEqual}
 use Rattle.lvm_group.specs.Made.{IsMade}
 use Rattle.lvm_group.specs.NewGroup.{NewGroup}
-use Rattle.lvm_tie.specs.passed.Names.{IsEven}
+use Rattle.lvm_tie.specs.passed.Even.{IsEven}
 use Rattle.lvm_tie.specs.Tied.{IsGood}
 use Rattle.lvm_tie.specs.Begins.{ShowsIts, shown_to}
 

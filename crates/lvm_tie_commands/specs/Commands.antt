@@ -8,7 +8,8 @@ use Rattle.lvm_steps.specs.Moments.{RunBegins, Keeps}
 use Rattle.lvm_commit.specs.LawsOfVolumes.{IsOneFoundOn}
 use Rattle.lvm_session.specs.State.{Core, State, state}
 use Rattle.lvm_session.specs.Sound.{IsSound}
-use Rattle.lvm_handover.specs.passed.Names.{moment_of, StartsHeld, EntersVolumes, IsSettled, Leaves, GroupFault, NewVolume, IfOn}
+use Rattle.lvm_handover.specs.passed.Core.{moment_of, StartsHeld, EntersVolumes, IsSettled, Leaves}
+use Rattle.lvm_handover.specs.passed.VolumePlan.{GroupFault, NewVolume, IfOn}
 use Rattle.lvm_handover.specs.passed.Volumes.{MklvGives, RmlvGives, to_make, to_remove}
 use Rattle.lvm_volumes.specs.Tidying.{to_tidy}
 use Rattle.lvm_handover.specs.Serving.{IsCommanded, OriginIsMarked}

@@ -4,7 +4,8 @@ use Rattle.lvm_num.specs.declared.place.Pp.{Pp}
 use Rattle.lvm_kept.specs.Moments.{Moment}
 use Rattle.lvm_steps.specs.Moments.{Keeps}
 use Rattle.lvm_session.specs.State.{State}
-use Rattle.lvm_tie_commands.specs.passed.Names.{moment_of, GroupFault, IfOn}
+use Rattle.lvm_tie_commands.specs.passed.Core.{moment_of}
+use Rattle.lvm_tie_commands.specs.passed.VolumePlan.{GroupFault, IfOn}
 use Rattle.lvm_volumes.specs.Mirrors.{MklvcopyGives, RmlvcopyGives, to_add, to_take}
 use Rattle.lvm_split.specs.Splitting.{SplitGives, to_split}
 use Rattle.lvm_tie_commands.specs.passed.Handover.{IsCommanded}

@@ -6,10 +6,10 @@ use Rattle.lvm_vol.specs.Legal.{begins_in}
 use Rattle.lvm_commit.specs.LawsOfVolumes.{IsOneFoundOn}
 use Rattle.lvm_session.specs.State.{State, state, is_there}
 use Rattle.lvm_session_start.specs.Beginning.{AreFaults}
-use Rattle.lvm_tie.specs.passed.Names.{Pair, device_of, even_pair, media_of, past_of}
+use Rattle.lvm_tie.specs.passed.Even.{Pair, device_of, even_pair, media_of, past_of}
 use Rattle.lvm_tie.specs.Tied.{IsTied}
 use Rattle.lvm_settled.specs.Examples.{core_of}
-use Rattle.lvm_members.specs.passed.Names.{LosesVotes, as_big, with_quorum}
+use Rattle.lvm_members.specs.passed.Change.{LosesVotes, as_big, with_quorum}
 use Rattle.lvm_members.specs.Commands.{MayBeChanged}
 use Rattle.lvm_tie_commands.specs.Coming.{IsDriven, IsMadeEven}
 use Rattle.lvm_tie_commands.specs.Settled.{IsSettledAfter, MayBeLeft, MayServe}

@@ -10,7 +10,7 @@ use Rattle.lvm_commit.specs.LawsOfVolumes.{IsOneFoundOn}
 use Rattle.lvm_session.specs.State.{State, is_there}
 use Rattle.lvm_session.specs.Sound.{IsSound}
 use Rattle.lvm_settled.specs.Settled.{IsKnown, IsCarriedOver}
-use Rattle.lvm_settled.specs.passed.Names.{IsHeld, NotesAreHome}
+use Rattle.lvm_settled.specs.passed.Core.{IsHeld, NotesAreHome}
 use Rattle.lvm_tie.specs.Spares.{SparesDescriptors, SparesOn}
 use Rattle.lvm_tie.specs.Tied.{IsGood, IsTied}
 use Rattle.lvm_tie.specs.Begins.{IsCoreAtRest, MembersShow}

@@ -5,7 +5,7 @@ use Rattle.lvm_vol.specs.Facts.{Fact}
 use Rattle.lvm_kept.specs.Moments.{Moment}
 use Rattle.lvm_steps.specs.Moments.{RunBegins}
 use Rattle.lvm_session.specs.State.{Core, State, state}
-use Rattle.lvm_handover.specs.passed.Names.{StartsHeld}
+use Rattle.lvm_handover.specs.passed.Core.{StartsHeld}
 use Rattle.lvm_tie.specs.Spares.{SparesDescriptors}
 use Rattle.lvm_tie.specs.Tied.{IsTied}
 

@@ -18,7 +18,7 @@ use Rattle.lvm_session.specs.State.{Core, State, state}
 use Rattle.lvm_session.specs.Turns.{TurnMakes}
 use Rattle.lvm_line.specs.passed.Tie.{RunsOn}
 use Rattle.lvm_line.proofs.passed.Tie.{runs_both, runs_none}
-use Rattle.lvm_line.specs.passed.Names.{TurnTells}
+use Rattle.lvm_line.specs.passed.KeepsEvents.{TurnTells}
 use Rattle.lvm_line.specs.passed.Ranges.{MovesTurns, NoMove, OneMove}
 use Rattle.lvm_top.specs.Ending.{Concludes, HasNothingLeft, IsServed, MakesTurns, NoneIsServed, NothingIsLeft, HasNothingLeftOrOut, RunsOut, TurnsAreMade}
 

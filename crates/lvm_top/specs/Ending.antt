@@ -6,7 +6,7 @@ use Rattle.lvm_session.specs.declared.answers.Turned.TheVariants as turned
 use Rattle.lvm_session.specs.State.{Core, State, state}
 use Rattle.lvm_session.specs.Sound.{IsSound}
 use Rattle.lvm_session.specs.Turns.{TurnMakes}
-use Rattle.lvm_line.specs.passed.Names.{TurnTells}
+use Rattle.lvm_line.specs.passed.KeepsEvents.{TurnTells}
 use Rattle.lvm_line.specs.passed.Tie.{RunsOn}
 use Rattle.lvm_line.specs.passed.Ranges.{MovesTurns}
 use Rattle.lvm_line.specs.passed.GroupLines.{IsClosed}

@@ -2,8 +2,8 @@
 use Rattle.std.proofs.Common.{◌≡◌, ◌+◌, ◌<◌, ◌++◌, [], ◌∷◌, ℕ, zero, suc, List, Option, Some, None, IfSome, take, slice_get, slice_index_or, min, ◌-◌, inl, inr, append-nil, append_assoc, refl, sym, ◌∙◌, ap, arith}
 use Rattle.std.specs.List.{flat_map}
 use Rattle.std.proofs.lemmas.Bool.{cases_lt}
-use Rattle.lvm_disk.specs.passed.Names.{Sector, joined}
-use Rattle.lvm_kept.proofs.passed.Names.{joined-more, joined-none}
+use Rattle.lvm_disk.specs.passed.Num.{Sector, joined}
+use Rattle.lvm_kept.proofs.passed.Rec.{joined-more, joined-none}
 
 -- a run is as another whose pieces are the same
 pub joined-shifted : (f g : ℕ → List ℕ) (i j n : ℕ) → ((k : ℕ) → k < n → f (i + k) ≡ g (j + k)) → joined f i n ≡ joined g j n

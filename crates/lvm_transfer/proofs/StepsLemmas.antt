@@ -1,6 +1,6 @@
 -- What a transfer on a shelf at rest does to the media.
 use Rattle.std.proofs.Common.{◌≡◌, ℕ, ◌∷◌, ◌++◌, [], List, Option, IfSome, false, ◌∙◌, ap, subst}
-use Rattle.lvm_disk.specs.passed.Names.{Buffer}
+use Rattle.lvm_disk.specs.passed.Num.{Buffer}
 use Rattle.lvm_disk.specs.Device.{Media, Flight, Device}
 use Rattle.lvm_disk.specs.Steps.{BothTold, Puts, PutsSome, ReadsRange, ChangedAtMost}
 use Rattle.lvm_kept.specs.Raw.{HasNothingOut}

@@ -1,1 +1,3 @@
-pub mod Names
+pub mod Disk
+pub mod Kept
+pub mod Rec

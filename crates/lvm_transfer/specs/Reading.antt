@@ -1,7 +1,7 @@
 -- What reads of a disk's records change, and how they end.
 use Rattle.std.specs.Prelude.{◌≡◌, ℕ, ◌+◌, ◌-◌, ◌<◌, ◌≤◌, Bool, true, false, List, [], ◌∷◌, length, take, drop, min, Result, Ok, Err, slice_index_or}
 use Rattle.std.specs.Int.{w32, from_be_bytes}
-use Rattle.lvm_disk.specs.passed.Names.{Buffer, data_start}
+use Rattle.lvm_disk.specs.passed.Num.{Buffer, data_start}
 use Rattle.lvm_disk.specs.Counts.{RoseBy, Rose}
 use Rattle.lvm_disk.specs.Device.{Flight, Device, IsReady}
 use Rattle.lvm_disk.specs.Images.{LeavesNoMore}

@@ -1,6 +1,6 @@
 -- One transfer on a shelf at which nothing else is out.
 use Rattle.std.specs.Prelude.{◌≡◌, ◌+◌, ◌-◌, ◌≤◌, ℕ, [], Bool, true, false}
-use Rattle.lvm_disk.specs.passed.Names.{Buffer}
+use Rattle.lvm_disk.specs.passed.Num.{Buffer}
 use Rattle.lvm_disk.specs.Counts.{RoseBy}
 use Rattle.lvm_disk.specs.Device.{Flight, Device, IsReady}
 use Rattle.lvm_disk.specs.Paths.{DeviceStep, Started, WasCut, Ended, Broke, Waited, Freed, Lit, Arranged}

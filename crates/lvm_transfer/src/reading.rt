@@ -1,7 +1,7 @@
 //! Sectors of a disk's record area are read, by one transfer after another.
 ghost use Rattle.std.specs.Prelude.{◌≡◌, ◌+◌, ◌-◌, ◌*◌, ◌++◌, ◌<◌, ◌≤◌, ℕ, length, max, min, slice_index_or, [], IfSome, IfOk, OnOk};
 ghost use Rattle.lvm_disk.specs.passed.NumRecordKind as kind_is;
-ghost use Rattle.lvm_disk.specs.passed.Names.{joined, record_in, record_sectors};
+ghost use Rattle.lvm_disk.specs.passed.Num.{joined, record_in, record_sectors};
 ghost use Rattle.lvm_disk.specs.Device.{IsReady};
 ghost use Rattle.lvm_disk.specs.Steps.{IsRange};
 ghost use Rattle.lvm_transfer.specs.Reading.{announced_length, only_buffer, IsInRecords, OneWasRead, ReadsEnd, SectorsRead};

@@ -8,8 +8,8 @@ use Rattle.lvm_disk.specs.Paths.{DeviceStep, Path}
 use Rattle.lvm_vol.specs.Log.{Log, cut_log}
 use Rattle.lvm_kept.specs.Moments.{Moment, StaysCalm}
 use Rattle.lvm_kept.specs.Plans.{ChangesBy}
-use Rattle.lvm_commit.specs.passed.Names.{Keeps, SpanGoesOn, StaysKept, at, beginning_at, IsOtherOrEarlier}
-use Rattle.lvm_commit.proofs.passed.Names.{keeps_path, earlier_stays_behind, session_is_before_later}
+use Rattle.lvm_commit.specs.passed.Steps.{Keeps, SpanGoesOn, StaysKept, at, beginning_at, IsOtherOrEarlier}
+use Rattle.lvm_commit.proofs.passed.Steps.{keeps_path, earlier_stays_behind, session_is_before_later}
 use Rattle.lvm_write.specs.Parts.{Spends}
 use Rattle.lvm_write.specs.Written.{KeepsShelf}
 use Rattle.lvm_write.proofs.WrittenLemmas.Writing.{both_map, changes_more}

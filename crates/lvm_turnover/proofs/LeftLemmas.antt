@@ -8,7 +8,7 @@ use Rattle.lvm_num.specs.declared.descriptor.Descriptor.{Descriptor}
 use Rattle.lvm_num.specs.Descriptor.{copies_of}
 use Rattle.lvm_num.specs.Status.{calls_stale}
 use Rattle.lvm_kept.specs.Group.{IsOneOf}
-use Rattle.lvm_status.specs.passed.Names.{IsLeftIn}
+use Rattle.lvm_status.specs.passed.Status.{IsLeftIn}
 use Rattle.lvm_status.specs.Marking.{is_served}
 use Rattle.lvm_status.specs.Update.{Stored}
 use Rattle.lvm_commit.specs.Settling.{there, NoneIsLeft, IsPassedOver, MarksLeft}

@@ -17,7 +17,7 @@ use Rattle.lvm_commit.specs.declared.commit.CommitEnd.{CommitEnd}
 use Rattle.lvm_commit.specs.declared.commit.CommitEnd.TheVariants as commit_end
 use Rattle.lvm_commit.specs.Settling.{IfBack, MayCommit}
 use Rattle.lvm_commit.proofs.RecordLemmas.{status_fits}
-use Rattle.lvm_session_start.specs.passed.Names.{IsOut}
+use Rattle.lvm_session_start.specs.passed.Pbuf.{IsOut}
 use Rattle.lvm_session.specs.declared.session.Session.{Session}
 use Rattle.lvm_session.specs.Fields.{core_of}
 use Rattle.lvm_session.specs.State.{Core, State, state, is_there}

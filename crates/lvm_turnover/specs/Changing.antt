@@ -11,7 +11,7 @@ use Rattle.lvm_disk.specs.Device.{IsReady}
 use Rattle.lvm_kept.specs.Moments.{Moment, StaysCalm}
 use Rattle.lvm_kept.specs.Plans.{Plan}
 use Rattle.lvm_erase.specs.Erasing.{ZeroesSlots}
-use Rattle.lvm_commit.specs.passed.Names.{SpanGoesOn}
+use Rattle.lvm_commit.specs.passed.Steps.{SpanGoesOn}
 use Rattle.lvm_write.specs.Parts.{Spends}
 use Rattle.lvm_write.specs.Written.{KeepsShelf}
 use Rattle.lvm_commit.specs.Settling.{there, AreWell, SpendsNumbers, IsOfStatus, IsOfCommit}

@@ -7,7 +7,7 @@ ghost use Rattle.lvm_num.specs.Disks.{has};
 ghost use Rattle.lvm_num.specs.Record.{longest_content};
 ghost use Rattle.lvm_status.specs.Members.{HasItsRows};
 ghost use Rattle.lvm_commit.specs.Settling.{IfBack, IsOf, MayCommit};
-ghost use Rattle.lvm_session_start.specs.passed.Names.{IsOut};
+ghost use Rattle.lvm_session_start.specs.passed.Pbuf.{IsOut};
 ghost use Rattle.lvm_session.specs.declared.open.Power.TheVariants as power;
 ghost use Rattle.lvm_session.specs.Fields.{core_of};
 ghost use Rattle.lvm_session.specs.Rooms.{SameRooms};

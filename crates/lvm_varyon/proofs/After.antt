@@ -23,8 +23,9 @@ use Rattle.lvm_kept.proofs.CommittedLemmas.Finding.{images_within}
 use Rattle.lvm_steps.specs.Behind.{StampsBefore, beginning_at, StampsAreEarlier}
 use Rattle.lvm_rec.specs.declared.homes.Homes.{Homes}
 use Rattle.lvm_write.specs.Homes.{SparesNewest}
-use Rattle.lvm_varyon.specs.passed.Names.{ShowsCommitted, LogsOnly}
-use Rattle.lvm_varyon.proofs.passed.Names.{only_planned}
+use Rattle.lvm_varyon.specs.passed.Commit.{ShowsCommitted}
+use Rattle.lvm_varyon.specs.passed.Recovery.{LogsOnly}
+use Rattle.lvm_varyon.proofs.passed.Recovery.{only_planned}
 use Rattle.lvm_steps.specs.VaryingOn.{HasNewest}
 use Rattle.lvm_steps.proofs.VaryingOnLemmas.Following.{restamp_is_newest}
 use Rattle.lvm_steps.proofs.VaryingOnLemmas.VaryingOn.{only_newest_is_found, restamp_keeps, restate_keeps}

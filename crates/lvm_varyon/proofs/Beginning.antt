@@ -39,7 +39,7 @@ use Rattle.lvm_quorum.specs.declared.row.SurveyRow.{SurveyRow}
 use Rattle.lvm_quorum.specs.declared.row.Survey.{Survey}
 use Rattle.lvm_quorum.specs.Surveyed.{surveyed}
 use Rattle.lvm_quorum.specs.Reading.{under}
-use Rattle.lvm_varyon.specs.passed.Names.{Room}
+use Rattle.lvm_varyon.specs.passed.Core.{Room}
 use Rattle.lvm_write.specs.Beginning.{Beginning, describes, states, MayBeginAgain}
 use Rattle.lvm_write.specs.Next.{IsNextStatus, has_passive}
 use Rattle.lvm_num.specs.Modes.{is_passive}
@@ -53,7 +53,7 @@ use Rattle.lvm_varyon.specs.Writing.{beginning}
 use Rattle.lvm_varyon.proofs.FoundLemmas.Seeing.{answered_by, read_row, shows_records, row_answers, enough_is}
 use Rattle.lvm_varyon.proofs.GroupLemmas.{same_voters, same_status, holds_finds}
 use Rattle.lvm_varyon.proofs.DescriptorLemmas.{one_place}
-use Rattle.lvm_varyon.proofs.passed.Names.{descriptor_fits}
+use Rattle.lvm_varyon.proofs.passed.Core.{descriptor_fits}
 use Rattle.lvm_varyon.proofs.RecordLemmas.{status_fits}
 
 -- a voter shows the group's descriptor, and has the room that it needs

@@ -20,8 +20,10 @@ use Rattle.lvm_kept.specs.Contents.{Contents, contents_of, descriptor_on, status
 use Rattle.lvm_kept.specs.Group.{Finds, descriptor_among, has_quorum, is_voter}
 use Rattle.lvm_kept.proofs.PlacesLemmas.{at-same, newest-same, room-same}
 use Rattle.lvm_steps.proofs.MakingLemmas.Making.{media_may}
-use Rattle.lvm_varyon.specs.passed.Names.{MayBeFound, HoldsCommitted, next_stamp, Recopy, IsOfCopies, ArePlanned}
-use Rattle.lvm_varyon.proofs.passed.Names.{shows_other}
+use Rattle.lvm_varyon.specs.passed.Core.{MayBeFound}
+use Rattle.lvm_varyon.specs.passed.Commit.{HoldsCommitted, next_stamp}
+use Rattle.lvm_varyon.specs.passed.Recovery.{Recopy, IsOfCopies, ArePlanned}
+use Rattle.lvm_varyon.proofs.passed.Recover.{shows_other}
 use Rattle.lvm_kept.specs.Plans.{Plan, ChangesBy}
 use Rattle.lvm_kept.specs.Torn.{IsOfNote}
 use Rattle.lvm_steps.specs.Behind.{StampsBefore, beginning_at, StampsAreEarlier}

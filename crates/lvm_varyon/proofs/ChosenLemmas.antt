@@ -14,7 +14,7 @@ use Rattle.lvm_kept.proofs.CommittedLemmas.Finding.{is_offered, offered}
 use Rattle.lvm_quorum.specs.declared.choice.Choice.{Choice}
 use Rattle.lvm_rec.specs.declared.homes.Homes.{Homes}
 use Rattle.lvm_quorum.specs.Choosing.{IsChosenGroup, IsOnly, IsGreatestEpoch}
-use Rattle.lvm_core.specs.passed.Names.{SpareNewest}
+use Rattle.lvm_core.specs.passed.Write.{SpareNewest}
 use Rattle.lvm_quorum.proofs.KeptGroupLemmas.Chosen.{found_valid, row_valid}
 use Rattle.lvm_quorum.proofs.GroupsLemmas.Epochs.{found_on}
 use Rattle.lvm_quorum.specs.declared.row.Survey.{Survey}

@@ -20,7 +20,9 @@ use Rattle.lvm_quorum.specs.declared.row.SurveyRow.{SurveyRow}
 use Rattle.lvm_quorum.specs.declared.row.Survey.{Survey}
 use Rattle.lvm_quorum.specs.Surveyed.{surveyed}
 use Rattle.lvm_status.specs.Update.{Updates}
-use Rattle.lvm_varyon.specs.passed.Names.{Room, IsPlaced, ArePlaced, HaveSectors}
+use Rattle.lvm_varyon.specs.passed.Core.{Room}
+use Rattle.lvm_varyon.specs.passed.Session.{IsPlaced, ArePlaced}
+use Rattle.lvm_varyon.specs.passed.Recovery.{HaveSectors}
 use Rattle.lvm_varyon.specs.Second.{status_after}
 use Rattle.lvm_varyon.proofs.SecondLemmas.{same_missing}
 use Rattle.lvm_varyon.specs.declared.plan.Plan.{Plan}

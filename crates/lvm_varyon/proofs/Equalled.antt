@@ -36,8 +36,12 @@ use Rattle.lvm_write.specs.Homes.{SparesNewest}
 use Rattle.lvm_write.specs.Beginning.{states}
 use Rattle.lvm_write.specs.Notes.{empty_note_sector}
 use Rattle.lvm_write.proofs.WrittenLemmas.Writing.{told_at}
-use Rattle.lvm_varyon.specs.passed.Names.{HoldsCommitted, IsOfCopies, IsCleaned, WasCleaned, OnlyNotesOf, ShowsCopied, MayEqualise, MayEqualiseBy, MayStateSecond, ArePlanned, second_write}
-use Rattle.lvm_varyon.proofs.passed.Names.{copied_ends, emptied_ends, next_leaves_none, next_same_plan, same_notes_same_plan, status_stands}
+use Rattle.lvm_varyon.specs.passed.Commit.{HoldsCommitted}
+use Rattle.lvm_varyon.specs.passed.Recovery.{IsOfCopies, ShowsCopied, MayEqualise, MayEqualiseBy, MayStateSecond, ArePlanned, second_write}
+use Rattle.lvm_varyon.specs.passed.Tidying.{IsCleaned, WasCleaned}
+use Rattle.lvm_varyon.specs.passed.Recover.{OnlyNotesOf}
+use Rattle.lvm_varyon.proofs.passed.Recovery.{copied_ends, emptied_ends, next_same_plan, same_notes_same_plan, status_stands}
+use Rattle.lvm_varyon.proofs.passed.Recover.{next_leaves_none}
 use Rattle.lvm_varyon.specs.Chosen.{answering}
 use Rattle.lvm_varyon.specs.Equal.{IsPut, IsStated, MakesEqual}
 use Rattle.lvm_varyon.specs.Second.{IsSecond, status_after, last_stamp, last_status}

@@ -11,7 +11,8 @@ use Rattle.lvm_vol.specs.Facts.{Fact}
 use Rattle.lvm_steps.specs.Moments.{ImagesKept, StaysKept}
 use Rattle.lvm_steps.proofs.MomentsLemmas.Spans.{fewer_stay_kept}
 use Rattle.lvm_quorum.specs.declared.row.Survey.{Survey}
-use Rattle.lvm_varyon.specs.passed.Names.{Room, MayEqualiseBy}
+use Rattle.lvm_varyon.specs.passed.Core.{Room}
+use Rattle.lvm_varyon.specs.passed.Recovery.{MayEqualiseBy}
 use Rattle.lvm_rec.specs.declared.homes.Homes.{Homes}
 use Rattle.lvm_kept.specs.Plans.{ChangesBy}
 use Rattle.lvm_write.proofs.WrittenLemmas.Writing.{both_from, if_told}

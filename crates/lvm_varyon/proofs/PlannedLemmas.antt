@@ -19,8 +19,10 @@ use Rattle.lvm_core.specs.Starting.{IsReservedFor}
 use Rattle.lvm_write.specs.Next.{IsNextStatus}
 use Rattle.lvm_recovery.specs.Clean.{is_still_dirty, left_dirty}
 use Rattle.lvm_recovery.specs.Plan.{ArePlannedInOrder, copies_dirty}
-use Rattle.lvm_varyon.specs.passed.Names.{ArePlanned, IsCleaned, Recopy, Room}
-use Rattle.lvm_varyon.proofs.passed.Names.{left_dirty_is_cleaned, left_dirty_valid}
+use Rattle.lvm_varyon.specs.passed.Recovery.{ArePlanned, Recopy}
+use Rattle.lvm_varyon.specs.passed.Tidying.{IsCleaned}
+use Rattle.lvm_varyon.specs.passed.Core.{Room}
+use Rattle.lvm_varyon.proofs.passed.Recovery.{left_dirty_is_cleaned, left_dirty_valid}
 use Rattle.lvm_varyon.specs.declared.plan.Copying.{Copying}
 use Rattle.lvm_varyon.specs.declared.plan.Plan.{Plan}
 use Rattle.lvm_varyon.specs.Copied.{all_copies}

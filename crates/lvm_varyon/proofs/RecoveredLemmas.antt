@@ -21,8 +21,12 @@ use Rattle.lvm_steps.specs.Behind.{StampsAreEarlier}
 use Rattle.lvm_rec.specs.declared.homes.Homes.{Homes}
 use Rattle.lvm_write.specs.Notes.{empty_note_sector}
 use Rattle.lvm_write.specs.Written.{IsInPlan}
-use Rattle.lvm_varyon.specs.passed.Names.{ShowsCommitted, ShowsCopied, IsCleaned, WasCleaned, OnlyNotesOf, IsInOneRun, LogsOnly, ArePlanned}
-use Rattle.lvm_varyon.proofs.passed.Names.{recovered_by_cleaning, same_notes_same_plan, only_planned, only_then, only_told, only_wider, runs_are_of_copies}
+use Rattle.lvm_varyon.specs.passed.Commit.{ShowsCommitted}
+use Rattle.lvm_varyon.specs.passed.Recovery.{ShowsCopied, IsInOneRun, LogsOnly, ArePlanned}
+use Rattle.lvm_varyon.specs.passed.Tidying.{IsCleaned, WasCleaned}
+use Rattle.lvm_varyon.specs.passed.Recover.{OnlyNotesOf}
+use Rattle.lvm_varyon.proofs.passed.Tidying.{recovered_by_cleaning}
+use Rattle.lvm_varyon.proofs.passed.Recovery.{same_notes_same_plan, only_planned, only_then, only_told, only_wider, runs_are_of_copies}
 use Rattle.lvm_varyon.specs.Chosen.{answering}
 use Rattle.lvm_varyon.specs.Equal.{MakesEqual}
 use Rattle.lvm_varyon.specs.Second.{last_status}

@@ -31,7 +31,8 @@ use Rattle.lvm_write.proofs.PartsLemmas.Transfers.{keeps_here}
 use Rattle.lvm_write.proofs.ShowsLemmas.{status_may_be_written}
 use Rattle.lvm_write.proofs.ShownLemmas.Following.{ranges_are_of_records}
 use Rattle.lvm_write.proofs.TornLemmas.{of_status}
-use Rattle.lvm_varyon.specs.passed.Names.{TheStatus, second_write}
+use Rattle.lvm_varyon.specs.passed.Write.{TheStatus}
+use Rattle.lvm_varyon.specs.passed.Recovery.{second_write}
 use Rattle.lvm_varyon.specs.Equal.{IsStated}
 use Rattle.lvm_varyon.specs.Second.{first_stated, IsSecond, status_after, last_seq}
 use Rattle.lvm_varyon.proofs.RecordLemmas.{status_fits}

@@ -12,7 +12,7 @@ use Rattle.lvm_num.specs.Status.{calls_stale, calls_missing}
 use Rattle.lvm_kept.specs.Group.{IsOneOf, IsSome}
 use Rattle.lvm_steps.proofs.RecordLemmas.{either, clash, first, second, join}
 use Rattle.lvm_status.specs.Update.{Stored}
-use Rattle.lvm_varyon.specs.passed.Names.{there, NoneIsLeft}
+use Rattle.lvm_varyon.specs.passed.Commit.{there, NoneIsLeft}
 use Rattle.lvm_write.specs.Next.{IsLeftBehind, IsNextStatus}
 use Rattle.lvm_write.proofs.NextLemmas.{is_member_of, copy_is_placed}
 

@@ -1,1 +1,4 @@
-pub mod Names
+pub mod Core
+pub mod Recover
+pub mod Recovery
+pub mod Tidying

@@ -20,8 +20,9 @@ use Rattle.lvm_rec.specs.declared.homes.Homes.{Homes}
 use Rattle.lvm_rec.specs.Homes.{Flips}
 use Rattle.lvm_write.specs.Beginning.{Beginning, again_order, MayBeginAgain}
 use Rattle.lvm_write.specs.Ends.{HasNoFault, IsLowestFailed}
-pub use Rattle.lvm_varyon.specs.passed.Names.{Recopy}
-use Rattle.lvm_varyon.specs.passed.Names.{AreApart, IsCopied, IsInOneRun, IsOfCopies, LogsJust, LogsOnly, MayCopy, StopsAtOne, runs_into, sources_and_targets, MayEqualiseBy, second_write, Cause}
+pub use Rattle.lvm_varyon.specs.passed.Recovery.{Recopy}
+use Rattle.lvm_varyon.specs.passed.Recovery.{AreApart, IsCopied, IsInOneRun, IsOfCopies, LogsJust, LogsOnly, MayCopy, StopsAtOne, runs_into, sources_and_targets, MayEqualiseBy, second_write}
+use Rattle.lvm_varyon.specs.passed.Core.{Cause}
 use Rattle.lvm_varyon.specs.passed.CoreRefusedCause as cause
 use Rattle.lvm_varyon.specs.declared.plan.Plan.{Plan}
 use Rattle.lvm_varyon.specs.Copied.{all_copies}

@@ -10,7 +10,7 @@ use Rattle.lvm_quorum.specs.Rows.{AreRows}
 use Rattle.lvm_quorum.specs.Surveyed.{IsSurveyValid}
 use Rattle.lvm_transfer.specs.Reading.{IsUnwritten, IsRested, IsCutOff}
 use Rattle.lvm_quorum.specs.Surveying.{IsSurveyed}
-use Rattle.lvm_varyon.specs.passed.Names.{Room, Cause}
+use Rattle.lvm_varyon.specs.passed.Core.{Room, Cause}
 use Rattle.lvm_varyon.specs.passed.CoreRefusedCause as cause
 use Rattle.lvm_write.specs.Beginning.{Beginning, Part, again_beginning}
 use Rattle.lvm_varyon.specs.declared.plan.Plan.{Plan}

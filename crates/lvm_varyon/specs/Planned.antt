@@ -15,7 +15,7 @@ use Rattle.lvm_quorum.specs.declared.choice.ChooseFault.{ChooseFault}
 use Rattle.lvm_quorum.specs.declared.choice.ChooseFault.TheVariants as fault
 use Rattle.lvm_rec.specs.declared.homes.Homes.{Homes}
 use Rattle.lvm_quorum.specs.Choosing.{HasNoRecord, HasRecord, IsAmbiguous, LacksQuorum}
-use Rattle.lvm_core.specs.passed.Names.{SpareNewest}
+use Rattle.lvm_core.specs.passed.Write.{SpareNewest}
 use Rattle.lvm_quorum.specs.declared.row.Survey.{Survey}
 use Rattle.lvm_quorum.specs.Surveyed.{surveyed}
 use Rattle.lvm_core.specs.declared.parts.Room.{Room}

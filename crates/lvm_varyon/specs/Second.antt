@@ -5,7 +5,7 @@ use Rattle.lvm_num.specs.declared.descriptor.Descriptor.{Descriptor}
 use Rattle.lvm_num.specs.declared.status.Status.{Status}
 use Rattle.lvm_num.specs.Disks.{Disks}
 use Rattle.lvm_num.specs.Record.{Stamped}
-use Rattle.lvm_varyon.specs.passed.Names.{IsCleaned}
+use Rattle.lvm_varyon.specs.passed.Tidying.{IsCleaned}
 
 -- the first status of a varyon, under sequence 2 of its moment
 abbrev pub first_stated : ℕ → Status → Stamped Status

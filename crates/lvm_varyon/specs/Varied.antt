@@ -14,7 +14,12 @@ use Rattle.lvm_kept.specs.Contents.{Contents, contents_of}
 use Rattle.lvm_kept.specs.Recovered.{Recovered}
 use Rattle.lvm_steps.specs.Behind.{ClockIsAhead, StampsAreEarlier}
 use Rattle.lvm_rec.specs.declared.homes.Homes.{Homes}
-use Rattle.lvm_varyon.specs.passed.Names.{HasNoRecord, HasRecord, IsAmbiguous, LacksQuorum, Room, Cause, Refused, Parts, IsReservedFor, ArePlaced, first_core, Core, is_there, Recopy, ArePlannedInOrder, ArePlanned, DirtyAreOne}
+use Rattle.lvm_varyon.specs.passed.Quorum.{HasNoRecord, HasRecord, IsAmbiguous, LacksQuorum}
+use Rattle.lvm_varyon.specs.passed.Core.{Room, Cause, Refused, IsReservedFor}
+use Rattle.lvm_varyon.specs.passed.SessionStart.{Parts, first_core}
+use Rattle.lvm_varyon.specs.passed.Session.{ArePlaced, Core, is_there}
+use Rattle.lvm_varyon.specs.passed.Recovery.{Recopy, ArePlannedInOrder, ArePlanned}
+use Rattle.lvm_varyon.specs.passed.Tidying.{DirtyAreOne}
 use Rattle.lvm_transfer.specs.Reading.{IsUnwritten, IsRested, IsCutOff}
 use Rattle.lvm_varyon.specs.passed.CoreRefusedCause as cause
 use Rattle.lvm_write.specs.Beginning.{Beginning, MayBeginAgain}

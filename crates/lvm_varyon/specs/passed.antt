@@ -1,2 +1,10 @@
+pub mod Commit
+pub mod Core
 pub mod CoreRefusedCause
-pub mod Names
+pub mod Quorum
+pub mod Recover
+pub mod Recovery
+pub mod Session
+pub mod SessionStart
+pub mod Tidying
+pub mod Write

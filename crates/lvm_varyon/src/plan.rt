@@ -6,7 +6,7 @@ ghost use Rattle.lvm_num.specs.Descriptor.{IsValid};
 ghost use Rattle.lvm_num.specs.Status.{IsValidStatus};
 ghost use Rattle.lvm_quorum.specs.Rows.{AreRows};
 ghost use Rattle.lvm_core.specs.Starting.{IsRoom};
-ghost use Rattle.lvm_core.specs.passed.Names.{IsOneGroup};
+ghost use Rattle.lvm_core.specs.passed.SessionStart.{IsOneGroup};
 ghost use Rattle.lvm_varyon.specs.Planned.{PlanGives, IsPlanFor, cause_of, IsCopyingOf, IsCleanedChoice, IsLastOf, IsPlanOfChoice};
 
 use lvm_core::below::homes_of;

@@ -10,7 +10,7 @@ ghost use Rattle.lvm_write.specs.Kept.{AgainStaysKept};
 ghost use Rattle.lvm_write.specs.Writes.{DiskWritesLeave};
 ghost use Rattle.lvm_transfer.specs.Reading.{OnlyReads};
 ghost use Rattle.lvm_write.specs.Parts.{Spends};
-ghost use Rattle.lvm_varyon.specs.passed.Names.{EqualisedStaysKept};
+ghost use Rattle.lvm_varyon.specs.passed.Recovery.{EqualisedStaysKept};
 ghost use Rattle.lvm_varyon.specs.Copied.{all_copies};
 ghost use Rattle.lvm_varyon.specs.Equal.{EqualGives, MayMakeEqual};
 ghost use Rattle.lvm_varyon.specs.Parts.{SurveyGives, plan_beginning, AgainWritesGive};

@@ -12,7 +12,7 @@ use Rattle.lvm_num.specs.DescriptorBytes.{is_at}
 use Rattle.lvm_num.proofs.Booleans.{or_false}
 use Rattle.lvm_vgda.specs.declared.used.UsedPps.{UsedPps}
 use Rattle.lvm_vgda.specs.Used.{has, Uses}
-use Rattle.lvm_vgda.proofs.passed.Names.{both}
+use Rattle.lvm_vgda.proofs.passed.Fields.{both}
 
 pub uses-more : (old new : UsedPps) (pps own : List Pp) (pp : Pp) → Uses old (pps ++ own)
     → ((disk other : ℕ) → other < 1016 → has new disk other ≡ has old disk other || is_at pp disk other) → Uses new (pps ++ (own ++ pp ∷ []))

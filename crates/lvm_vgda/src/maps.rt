@@ -8,7 +8,7 @@ ghost use Rattle.lvm_num.specs.declared.descriptor.LvRow.{LvRow};
 ghost use Rattle.lvm_num.specs.Descriptor.{IsMember};
 ghost use Rattle.lvm_num.specs.DescriptorBytes.{unfinished, partition_at, partitions_at, maps_at};
 ghost use Rattle.lvm_num.specs.Reading.{number_at};
-ghost use Rattle.lvm_vgda.specs.passed.Names.{Gives, rest_of};
+ghost use Rattle.lvm_vgda.specs.passed.Fields.{Gives, rest_of};
 ghost use Rattle.lvm_vgda.specs.Used.{Uses, is_free, free_at};
 
 use crate::below::{Fault, Unread, u16_at};

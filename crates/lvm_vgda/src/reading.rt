@@ -2,7 +2,7 @@
 ghost use Rattle.std.specs.Prelude.{IfOk, Ok};
 ghost use Rattle.lvm_num.specs.declared.descriptor.Descriptor.{Descriptor as descriptor};
 ghost use Rattle.lvm_num.specs.DescriptorBytes.{IsDescriptor, descriptor_of};
-ghost use Rattle.lvm_vgda.specs.passed.Names.{Gives, rest_of};
+ghost use Rattle.lvm_vgda.specs.passed.Fields.{Gives, rest_of};
 ghost use Rattle.lvm_vgda.specs.Parts.{descriptor_by_parts, rows_at};
 
 use crate::below::{Fault, Unread, all, behind};

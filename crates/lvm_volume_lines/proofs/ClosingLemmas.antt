@@ -16,10 +16,10 @@ use Rattle.lvm_volumes.specs.Tidying.{TidyGives, to_tidy}
 use Rattle.lvm_volumes.specs.Stages.{CommandBroke}
 use Rattle.lvm_volumes.proofs.StagesLemmas.Breaking.{broken}
 use Rattle.lvm_range_lines.proofs.passed.TieCommands.{tidy_goes_on}
-use Rattle.lvm_range_lines.specs.passed.GroupLines.{VaryoffDoes as ClosesDoes, NoVaryoff as NoneToClose, BusyVaryoff as BusyToClose, VariesOff as Closes}
-use Rattle.lvm_range_lines.specs.passed.Names.{AreAnswered, ends_session, fault_of, is_over}
+use Rattle.lvm_range_lines.specs.passed.GroupLines.{VaryoffDoes as ClosesDoes, NoVaryoff as NoneToClose, BusyVaryoff as BusyToClose, VariesOff as Closes, Aside, CommandEnds, EndsUnasked, patience_of_line, LineGoesOn, HaveRooms, IsBetweenStage, IsFittingStage, IsOn, OfGroup, history_in, most_refusals, open_in, session_in, shelf_in, state_in, ScriptState, without_facts, Reply, Stage}
+use Rattle.lvm_range_lines.specs.passed.Posts.{AreAnswered}
+use Rattle.lvm_range_lines.specs.passed.VolumePlan.{ends_session, fault_of, is_over}
 use Rattle.lvm_range_lines.specs.passed.VolumePlanFaultGroupFault as fault
-use Rattle.lvm_range_lines.specs.passed.GroupLines.{Aside, CommandEnds, EndsUnasked, patience_of_line, LineGoesOn, HaveRooms, IsBetweenStage, IsFittingStage, IsOn, OfGroup, history_in, most_refusals, open_in, session_in, shelf_in, state_in, ScriptState, without_facts, Reply, Stage}
 use Rattle.lvm_range_lines.specs.passed.ReplyVariants as reply
 use Rattle.lvm_range_lines.proofs.passed.GroupLines.{Bears, LeavesAnswers, answered_bears, bears_cut, landed_bears}
 use Rattle.lvm_range_lines.proofs.passed.Tie.{goes_any, path_frames, path_shape}

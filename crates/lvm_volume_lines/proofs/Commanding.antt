@@ -32,7 +32,7 @@ use Rattle.lvm_core.specs.Settled.{IsSettled as IsSettledCore}
 use Rattle.lvm_core.specs.Sound.{HaveAllLanded, IsSoundAtRest}
 use Rattle.lvm_commit.specs.LawsOfVolumes.{IsOneFoundOn}
 use Rattle.lvm_range_lines.proofs.passed.Quiesce.{each_is_behind, still_is_behind_each}
-use Rattle.lvm_range_lines.specs.passed.Names.{Post, AreAnswered, AreHeld, ended_with}
+use Rattle.lvm_range_lines.specs.passed.Posts.{Post, AreAnswered, AreHeld, ended_with}
 use Rattle.lvm_range_lines.specs.passed.Tie.{IsBefore, LeavesSession, IsStamped, IsGood, StaysGood}
 use Rattle.lvm_range_lines.specs.passed.TieCommands.{IsAloneAtFirst, MayBeCommanded, StandsAfter, StandsSince}
 use Rattle.lvm_range_lines.specs.passed.GroupLines.{LineGoesOn, HasBegunHeld, IsAlone, Role, IsStuck, most_refusals, posts_ended, ArePosted, IsBetween, IsOnBetween, IsTimely, StandsAlone, StandsBy, ScriptState, Reply}

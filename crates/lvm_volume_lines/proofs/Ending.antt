@@ -17,7 +17,7 @@ use Rattle.lvm_range_lines.specs.passed.ReplyVariants as reply
 use Rattle.lvm_range_lines.specs.passed.GroupLines.{most_refusals}
 use Rattle.lvm_volume_lines.proofs.Commanding.{ClosesWell, closes_dark, closes_lit}
 use Rattle.lvm_volume_lines.specs.Volumes.{volume_reply}
-use Rattle.lvm_range_lines.specs.passed.Names.{GroupFault, NewVolume, is_over}
+use Rattle.lvm_range_lines.specs.passed.VolumePlan.{GroupFault, NewVolume, is_over}
 use Rattle.lvm_range_lines.specs.passed.VolumePlanFaultGroupFault as fault
 
 -- ---- what is known by the answer

@@ -11,14 +11,14 @@ use Rattle.lvm_session.specs.Sound.{is_dark}
 use Rattle.lvm_session.specs.declared.open.Power.{Power}
 use Rattle.lvm_session.specs.declared.open.Power.TheVariants as power
 use Rattle.lvm_session.specs.State.{Core, State, votes_there}
-use Rattle.lvm_range_lines.proofs.passed.Names.{votes_go}
+use Rattle.lvm_range_lines.proofs.passed.KeepsEvents.{votes_go}
 use Rattle.lvm_core.specs.declared.fault.CommitFault.{CommitFault}
 use Rattle.lvm_core.specs.declared.fault.CommitFault.TheVariants as commit
 use Rattle.lvm_core.specs.Settled.{IsSettled as IsSettledCore}
 use Rattle.lvm_core.specs.Sound.{HaveAllLanded}
 use Rattle.lvm_core.specs.State.{state_of}
 use Rattle.lvm_range_lines.specs.passed.Driver.{FailsSo}
-use Rattle.lvm_range_lines.specs.passed.Names.{AreAnswered, ended_with}
+use Rattle.lvm_range_lines.specs.passed.Posts.{AreAnswered, ended_with}
 use Rattle.lvm_range_lines.specs.passed.Tie.{LeavesSession}
 use Rattle.lvm_range_lines.proofs.passed.Tie.{goes_any, leaves_move_on, path_frames, path_shape, stays_unstuck}
 use Rattle.lvm_range_lines.specs.passed.GroupLines.{EndsUnasked, patience_of_line, LineGoesOn, Role, IsStuck, most_refusals, HaveRooms, IsBetweenStage, IsClosed, SessionIsClosed, IsFittingStage, history_in, open_in, posts_ended, session_in, shelf_in, state_in, ArePosted, IsAtRest, ScriptState, without_facts, Reply, Stage}

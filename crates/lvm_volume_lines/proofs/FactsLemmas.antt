@@ -8,7 +8,8 @@ use Rattle.lvm_vol.specs.Facts.{Fact, Making, Made, Removing, Removed}
 use Rattle.lvm_vol.specs.Log.{Log, cut_log}
 use Rattle.lvm_core.specs.Sound.{HaveAllLanded}
 use Rattle.lvm_session.specs.State.{Core, State}
-use Rattle.lvm_range_lines.specs.passed.Names.{Asked, AreAnswered, GroupFault, NewVolume}
+use Rattle.lvm_range_lines.specs.passed.Posts.{Asked, AreAnswered}
+use Rattle.lvm_range_lines.specs.passed.VolumePlan.{GroupFault, NewVolume}
 use Rattle.lvm_range_lines.specs.passed.Volumes.{MklvGives, RmlvGives, HasEntered, making, removed, removing}
 use Rattle.lvm_range_lines.proofs.passed.GroupLines.{Bears, open_more, bears_cut, landed_bears, answered_bears, answered_on}
 use Rattle.lvm_range_lines.specs.passed.VolumePlanFaultGroupFault as fault

@@ -14,7 +14,7 @@ use Rattle.lvm_core.specs.Sound.{HaveAllLanded}
 use Rattle.lvm_core.specs.State.{state_of}
 use Rattle.lvm_range_lines.specs.passed.TieCommands.{IsAloneAtFirst, IsLeftStandingSince, MayBeCommanded}
 use Rattle.lvm_range_lines.specs.passed.Volumes.{StillHeld}
-use Rattle.lvm_range_lines.specs.passed.Names.{GroupFault, IfOn, is_over}
+use Rattle.lvm_range_lines.specs.passed.VolumePlan.{GroupFault, IfOn, is_over}
 use Rattle.lvm_range_lines.specs.passed.GroupLines.{EndsUnasked, patience_of_line, Role, IsBetweenStage, IsFittingStage, open_in, session_in, shelf_in, history_in, state_in, ScriptState, without_facts, Reply, Stage}
 use Rattle.lvm_range_lines.proofs.passed.GroupLines.{LeavesAnswers}
 use Rattle.lvm_volume_lines.specs.Commands.{HasRested, IsCarriedOut, IsLeftAs}

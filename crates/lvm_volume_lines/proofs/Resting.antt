@@ -27,8 +27,8 @@ use Rattle.lvm_session.specs.Judging.{is_missing}
 use Rattle.lvm_session.specs.Sound.{IsSound}
 use Rattle.lvm_session.specs.Turns.{FinishMakes, OnMakes, TurnMakes, WasDark, WasOff, WasOn, Moves, NoStart, Finishes}
 use Rattle.lvm_range_lines.specs.passed.Driver.{IsAny, IsTurn}
-use Rattle.lvm_range_lines.proofs.passed.Names.{turn_counts, turn_keeps, turn_marks, loses_both, loses_none, turn_loses}
-use Rattle.lvm_range_lines.specs.passed.Names.{LosesByFaults}
+use Rattle.lvm_range_lines.proofs.passed.KeepsEvents.{turn_counts, turn_keeps, turn_marks, loses_both, loses_none, turn_loses}
+use Rattle.lvm_range_lines.specs.passed.KeepsEvents.{LosesByFaults}
 use Rattle.lvm_range_lines.proofs.passed.Handover.{none_flown}
 use Rattle.lvm_range_lines.specs.passed.Ranges.{KeepsTable}
 use Rattle.lvm_range_lines.proofs.passed.Ranges.{table_same, table_then, turn_table}

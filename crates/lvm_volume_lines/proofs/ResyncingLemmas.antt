@@ -14,7 +14,7 @@ use Rattle.lvm_session.specs.Calls.{has_numbers}
 use Rattle.lvm_session.specs.Causes.{is_over}
 use Rattle.lvm_session.specs.Sound.{IsSound}
 use Rattle.lvm_session.specs.State.{Core, State, state_of}
-use Rattle.lvm_volume_lines.specs.passed.Names.{Post}
+use Rattle.lvm_volume_lines.specs.passed.Posts.{Post}
 use Rattle.lvm_ranges.specs.declared.copies.Passed.TheVariants as passed
 use Rattle.lvm_ranges.specs.declared.fault.SyncFault.{SyncFault}
 use Rattle.lvm_ranges.specs.declared.fault.SyncFault.TheVariants as fault

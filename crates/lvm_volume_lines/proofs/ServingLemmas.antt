@@ -11,7 +11,7 @@ use Rattle.lvm_range_lines.specs.passed.Handover.{IsCommanded}
 use Rattle.lvm_range_lines.specs.passed.TieCommands.{MayServeWith}
 use Rattle.lvm_range_lines.proofs.passed.Handover.{mklv_serves}
 use Rattle.lvm_range_lines.proofs.passed.TieCommands.{mklv_goes_on}
-use Rattle.lvm_range_lines.specs.passed.Names.{GroupFault, NewVolume}
+use Rattle.lvm_range_lines.specs.passed.VolumePlan.{GroupFault, NewVolume}
 use Rattle.lvm_range_lines.specs.passed.VolumePlanFaultGroupFault as fault
 use Rattle.lvm_range_lines.specs.passed.Volumes.{MklvGives, to_make}
 use Rattle.lvm_range_lines.proofs.passed.Volumes.{keeps_none, leaves_none}

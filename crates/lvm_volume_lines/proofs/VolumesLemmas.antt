@@ -2,7 +2,7 @@
 use Rattle.std.proofs.Common.{◌≡◌, ℕ, List, Option, Some, IfSome, Result, Ok, Err, refl, subst}
 use Rattle.lvm_session.specs.State.{Core, State}
 use Rattle.lvm_core.specs.Looking.{IsNumberOf}
-use Rattle.lvm_range_lines.specs.passed.Names.{GroupFault, NewVolume, is_over}
+use Rattle.lvm_range_lines.specs.passed.VolumePlan.{GroupFault, NewVolume, is_over}
 use Rattle.lvm_range_lines.specs.passed.GroupLines.{IsOn, ScriptState}
 use Rattle.lvm_volume_lines.specs.Volumes.{Drains, MklvDoes, MklvEnds, MakesVolume, MklvFails, RmlvDoes, RmlvEnds, RemovesVolume, RmlvFails, volume_reply}
 

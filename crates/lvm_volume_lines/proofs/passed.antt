@@ -1,11 +1,12 @@
 pub mod Group
 pub mod GroupLines
-pub mod Names
+pub mod Keeps
+pub mod KeepsEvents
+pub mod Members
 pub mod Quiesce
 pub mod RangeLines
 pub mod Ranges
 pub mod Splitting
+pub mod Tie
 pub mod TieCommands
 pub mod Varyon
-pub mod Tie
-pub mod Members

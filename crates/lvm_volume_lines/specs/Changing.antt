@@ -10,7 +10,7 @@ use Rattle.lvm_core.specs.Held.{IsHeld}
 use Rattle.lvm_core.specs.Leaves.{FindsOnly}
 use Rattle.lvm_core.specs.Settled.{IsSettled}
 use Rattle.lvm_core.specs.State.{state_of}
-use Rattle.lvm_range_lines.specs.passed.Names.{Post}
+use Rattle.lvm_range_lines.specs.passed.Posts.{Post}
 use Rattle.lvm_range_lines.specs.passed.GroupLines.{IsNotOn, IsOn, IsRefused, open_in, ScriptState, Refusal, Reply, Stage}
 use Rattle.lvm_volume_lines.specs.passed.Members.{BigGives, IsChangedTo, IsNext, IsOfChange, KeepsMarks, among, RuleFault, RuleGives, as_big, ends_session, is_over, with_quorum}
 use Rattle.lvm_volume_lines.specs.passed.RuleFaultVariants as fault

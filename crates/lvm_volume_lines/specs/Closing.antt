@@ -13,9 +13,8 @@ use Rattle.lvm_core.specs.declared.fault.CommitFault.{CommitFault}
 use Rattle.lvm_core.specs.Leaves.{Leaves}
 use Rattle.lvm_core.specs.State.{state_of}
 use Rattle.lvm_volumes.specs.Tidying.{TidyGives, to_tidy}
-use Rattle.lvm_range_lines.specs.passed.Names.{Post}
-use Rattle.lvm_range_lines.specs.passed.GroupLines.{IsRefused, IsOn, IsNotOn, open_in, ScriptState, Reply, Stage}
-use Rattle.lvm_range_lines.specs.passed.GroupLines.{EndsSession}
+use Rattle.lvm_range_lines.specs.passed.Posts.{Post}
+use Rattle.lvm_range_lines.specs.passed.GroupLines.{IsRefused, IsOn, IsNotOn, open_in, ScriptState, Reply, Stage, EndsSession}
 use Rattle.lvm_volume_lines.specs.passed.RefusalVariants as refusal
 use Rattle.lvm_volume_lines.specs.passed.ReplyVariants as reply
 use Rattle.lvm_volume_lines.specs.Commands.{IsLeftOff}

@@ -16,7 +16,8 @@ use Rattle.lvm_core.specs.State.{state_of}
 use Rattle.lvm_range_lines.specs.passed.Driver.{FailsSo, IsAny, IsTurn}
 use Rattle.lvm_range_lines.specs.passed.Tie.{RunsOn}
 use Rattle.lvm_range_lines.specs.passed.Handover.{IsCommanded, OriginIsMarked}
-use Rattle.lvm_range_lines.specs.passed.Names.{Post, GroupFault, is_over}
+use Rattle.lvm_range_lines.specs.passed.Posts.{Post}
+use Rattle.lvm_range_lines.specs.passed.VolumePlan.{GroupFault, is_over}
 use Rattle.lvm_range_lines.specs.passed.GroupLines.{HaveRooms, IsOfKind, history_in, history_of, posts_ended, session_in, session_of, shelf_in, shelf_of, Holder, Reply, Stage}
 use Rattle.lvm_volume_lines.specs.Volumes.{volume_reply}
 

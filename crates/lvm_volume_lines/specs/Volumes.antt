@@ -10,7 +10,8 @@ use Rattle.lvm_write.specs.Written.{KeepsShelf}
 use Rattle.lvm_session.specs.Judging.{is_missing}
 use Rattle.lvm_session.specs.Sound.{IsSound}
 use Rattle.lvm_session.specs.State.{Core, State, state, is_there}
-use Rattle.lvm_range_lines.specs.passed.Names.{LosesVotesByFaults, GroupFault, NewVolume, ends_session, fault_of}
+use Rattle.lvm_range_lines.specs.passed.KeepsEvents.{LosesVotesByFaults}
+use Rattle.lvm_range_lines.specs.passed.VolumePlan.{GroupFault, NewVolume, ends_session, fault_of}
 use Rattle.lvm_core.specs.declared.fault.CommitFault.{CommitFault}
 use Rattle.lvm_core.specs.Held.{IsHeld}
 use Rattle.lvm_core.specs.Leaves.{IsOfCommand, KeepsStatus, FindsOnly, Scope}

@@ -5,7 +5,9 @@ pub mod GroupFaultVariants
 pub mod GroupLines
 pub mod Handover
 pub mod HolderVariants
-pub mod Names
+pub mod KeepsEvents
+pub mod Members
+pub mod Posts
 pub mod Quiesce
 pub mod QuiescedVariants
 pub mod RangeLines
@@ -14,13 +16,12 @@ pub mod Ranges
 pub mod RefusalVariants
 pub mod ReplyVariants
 pub mod Resync
-pub mod SyncFaultVariants
+pub mod RuleFaultVariants
 pub mod Splitting
+pub mod SyncFaultVariants
 pub mod Tie
 pub mod TieCommands
 pub mod Varyon
 pub mod VolumePlan
 pub mod VolumePlanFaultGroupFault
 pub mod Volumes
-pub mod Members
-pub mod RuleFaultVariants

@@ -12,7 +12,7 @@ ghost use Rattle.lvm_range_lines.specs.passed.Volumes.{MklvGives, RmlvGives, to_
 ghost use Rattle.lvm_range_lines.specs.passed.GroupLines.{EndsUnasked, OfGroup, IsBetweenStage, IsFittingStage, IsOfKind, open_in, session_of, shelf_of, IsOnBetween};
 ghost use Rattle.lvm_volume_lines.specs.Commands.{HasBrokenOff, HasRested, IsCarriedOut, IsHeldAgain, IsLeftAs, IsLeftOff, IsLeftOn, none_added};
 ghost use Rattle.lvm_volume_lines.specs.Volumes.{MklvDoes, RmlvDoes, drain_refusal, refusal_for, volume_reply, wanted};
-ghost use Rattle.lvm_range_lines.specs.passed.Names.{ends_session, is_over};
+ghost use Rattle.lvm_range_lines.specs.passed.VolumePlan.{ends_session, is_over};
 
 use lvm_core::{Closed, CommandDriver, CommitFault};
 use lvm_disk::Shelf;

@@ -1,1 +1,3 @@
-pub mod Names
+pub mod Commit
+pub mod Core
+pub mod Write

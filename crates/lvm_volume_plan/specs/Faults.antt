@@ -8,7 +8,7 @@ use Rattle.lvm_map.specs.FirstFit.{IsAllocated, HasNoPlace, free_count, new_volu
 use Rattle.lvm_core.specs.declared.fault.CommitFault.{CommitFault}
 use Rattle.lvm_core.specs.declared.fault.CommitFault.TheVariants as commit
 use Rattle.lvm_core.specs.passed.SessionOpenPower as power
-use Rattle.lvm_core.specs.passed.Names.{Core, State, is_there, votes_there}
+use Rattle.lvm_core.specs.passed.Session.{Core, State, is_there, votes_there}
 use Rattle.lvm_core.specs.Looking.{IsNumberOf, HasNoVolumeNamed}
 use Rattle.lvm_volume_plan.specs.declared.fault.GroupFault.{GroupFault}
 use Rattle.lvm_volume_plan.specs.declared.fault.GroupFault.TheVariants as fault

@@ -3,7 +3,7 @@ use Rattle.std.specs.Prelude.{◌≡◌, ℕ, []}
 use Rattle.lvm_num.specs.declared.descriptor.Descriptor.{Descriptor}
 use Rattle.lvm_num.specs.Descriptor.{IsValid}
 use Rattle.lvm_num.specs.Geometry.{volume_blocks}
-use Rattle.lvm_core.specs.passed.Names.{Core}
+use Rattle.lvm_core.specs.passed.Session.{Core}
 use Rattle.lvm_volume_plan.specs.declared.new_volume.VolumePlan.{VolumePlan}
 use Rattle.lvm_volume_plan.specs.declared.new_volume.NewVolume.{NewVolume}
 use Rattle.lvm_volume_plan.specs.NewVolume.{IsLowestFree, IsInOrder, row_for, with_volume, without_volume}

@@ -1,7 +1,7 @@
 //! What stands against copies that are to be added or removed, and the descriptor with them.
 ghost use Rattle.std.specs.Prelude.{◌≡◌, ◌≤◌, ◌<◌, ◌*◌, ◌&&◌, not, ℕ, length, take, drop, IsFalse, IfOk, IfErr, IfSome, IfNone};
 ghost use Rattle.lvm_num.specs.declared.descriptor.LvRow.{LvRow};
-ghost use Rattle.lvm_volume_plan.specs.passed.Names.{IsSettled};
+ghost use Rattle.lvm_volume_plan.specs.passed.Core.{IsSettled};
 ghost use Rattle.lvm_volume_plan.specs.Faults.{TakesCommands};
 ghost use Rattle.lvm_volume_plan.specs.PlannedVolume.{AreOfOneGroup};
 ghost use Rattle.lvm_volume_plan.specs.CopiesFaults.{MayGrow, HasFurtherPlaces, MayBeAdded, RefusesMklvcopy, MayShrink, has_fresh, has_usable, is_loss, IsFirstLoss, LosesNone, MayBeTaken, RefusesRmlvcopy};

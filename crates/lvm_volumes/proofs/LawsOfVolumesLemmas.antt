@@ -31,7 +31,7 @@ use Rattle.lvm_commit.specs.Committed.{ShowsCommitted, HoldsCommitted}
 use Rattle.lvm_commit.specs.LawsOfVolumes.{VolumeServes}
 use Rattle.lvm_commit.proofs.LawsLemmas.Found.{shows_group, status_read}
 use Rattle.lvm_session.specs.State.{State, is_there}
-use Rattle.lvm_volume_plan.specs.passed.Names.{LetsCommit, IsHeldSince}
+use Rattle.lvm_volume_plan.specs.passed.Core.{LetsCommit, IsHeldSince}
 use Rattle.lvm_even.specs.Commands.{HasCopiesOf}
 use Rattle.lvm_even.proofs.CommandsLemmas.{copies_serve}
 use Rattle.lvm_even.proofs.Rows.{some_passing}

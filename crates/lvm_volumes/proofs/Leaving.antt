@@ -16,8 +16,12 @@ use Rattle.lvm_kept.specs.Moments.{Moment}
 use Rattle.lvm_kept.specs.Torn.{RecordWrite}
 use Rattle.lvm_kept.specs.Plans.{Plan}
 use Rattle.lvm_status.specs.Update.{members_there}
-use Rattle.lvm_volume_plan.specs.passed.Names.{KeepsShelf, there, IsOfSession, StatesGroup, IsOfStatus, IsOfCommit, IsZeroOf, IsHeld, Scope, NoPartition, NoVolume, IsHeldSince, IsOfCommand, WasLeftBehind, MayBeFound, Leaves}
-use Rattle.lvm_volume_plan.proofs.passed.Names.{keeps_here, keeps_then, spends_none, spends_then, keeps_wider, keeps_same, same_status}
+use Rattle.lvm_volume_plan.specs.passed.Write.{KeepsShelf}
+use Rattle.lvm_volume_plan.specs.passed.Commit.{there, IsOfSession, StatesGroup, IsOfStatus, IsOfCommit}
+use Rattle.lvm_volume_plan.specs.passed.Core.{IsZeroOf, IsHeld, Scope, NoPartition, NoVolume, IsHeldSince, IsOfCommand, WasLeftBehind, MayBeFound, Leaves}
+use Rattle.lvm_volume_plan.proofs.passed.Write.{keeps_here, keeps_then, spends_none, spends_then}
+use Rattle.lvm_volume_plan.proofs.passed.Commit.{keeps_wider}
+use Rattle.lvm_volume_plan.proofs.passed.Core.{keeps_same, same_status}
 use Rattle.lvm_session.specs.State.{State, is_there, moment_of}
 use Rattle.lvm_steps.specs.Moments.{SpanGoesOn}
 use Rattle.lvm_volumes.specs.Endings.{StillHeld, IfAlone, commanding}

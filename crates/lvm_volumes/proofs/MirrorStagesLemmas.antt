@@ -28,9 +28,10 @@ use Rattle.lvm_commit.specs.Settling.{NoneIsLeft, MarksLeft, many_there}
 use Rattle.lvm_commit.proofs.AmongLemmas.{contains, one_place}
 use Rattle.lvm_session.specs.Judging.{copies_in, is_wanted_stale}
 use Rattle.lvm_session.specs.State.{Core, State, is_there}
-use Rattle.lvm_volume_plan.specs.passed.Names.{CommitFault, IsSettled, HasSpareNumbers, is_among, AreUnused, Restates, LetsCommit, HasStated, HasCommitted, CommitEnds, MarkEnds, NoPartition, NoVolume, Always, IsHeldSince, Leaves, committing, marking}
+use Rattle.lvm_volume_plan.specs.passed.Core.{CommitFault, IsSettled, HasSpareNumbers, AreUnused, Restates, LetsCommit, HasStated, HasCommitted, CommitEnds, MarkEnds, NoPartition, NoVolume, Always, IsHeldSince, Leaves, committing, marking}
+use Rattle.lvm_volume_plan.specs.passed.Session.{is_among}
 use Rattle.lvm_volume_plan.specs.Faults.{IfOn, command_answer}
-use Rattle.lvm_volume_plan.proofs.passed.Names.{pp_is}
+use Rattle.lvm_volume_plan.proofs.passed.Core.{pp_is}
 use Rattle.lvm_volumes.specs.Endings.{StillHeld, KeepsFresh}
 use Rattle.lvm_volumes.specs.Stages.{CommandBroke}
 use Rattle.lvm_volumes.proofs.StagesLemmas.Breaking.{broken, broken_since, stopped}

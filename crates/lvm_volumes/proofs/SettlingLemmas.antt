@@ -10,8 +10,8 @@ use Rattle.lvm_num.specs.Status.{calls_stale}
 use Rattle.lvm_kept.specs.Group.{IsOneOf}
 use Rattle.lvm_status.specs.Update.{Stored}
 use Rattle.lvm_steps.proofs.RecordLemmas.{either, clash}
-use Rattle.lvm_volume_plan.specs.passed.Names.{there, NoneIsLeft, MarksLeft}
-use Rattle.lvm_volume_plan.proofs.passed.Names.{contains, of_map, of_rows}
+use Rattle.lvm_volume_plan.specs.passed.Commit.{there, NoneIsLeft, MarksLeft}
+use Rattle.lvm_volume_plan.proofs.passed.Commit.{contains, of_map, of_rows}
 use Rattle.lvm_volume_plan.specs.declared.new_volume.NewVolume.{NewVolume}
 use Rattle.lvm_volume_plan.specs.NewVolume.{row_for, with_volume, without_volume}
 use Rattle.lvm_volume_plan.proofs.Sublists.{one_insert, one_filter}

@@ -30,8 +30,8 @@ use Rattle.lvm_kept.proofs.MayLemmas.{known_more}
 use Rattle.lvm_steps.specs.Committing.{VolumeIsServed}
 use Rattle.lvm_steps.proofs.EntriesLemmas.{volumes-append}
 use Rattle.lvm_steps.proofs.VolumeEntriesLemmas.{zeros_serve}
-use Rattle.lvm_volume_plan.specs.passed.Names.{ShowsCommitted, IsSectorOf, VolumeServes, HasFreshCopies}
-use Rattle.lvm_volume_plan.proofs.passed.Names.{contains, of_map, zeros_are_found}
+use Rattle.lvm_volume_plan.specs.passed.Commit.{ShowsCommitted, IsSectorOf, VolumeServes, HasFreshCopies}
+use Rattle.lvm_volume_plan.proofs.passed.Commit.{contains, of_map, zeros_are_found}
 use Rattle.lvm_volume_plan.specs.declared.new_volume.NewVolume.{NewVolume}
 use Rattle.lvm_volume_plan.specs.NewVolume.{IsLowestFree, IsInOrder, row_for, with_volume, without_volume}
 use Rattle.lvm_volume_plan.proofs.Sublists.{one_insert}

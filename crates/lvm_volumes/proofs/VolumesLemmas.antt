@@ -5,7 +5,7 @@ use Rattle.lvm_num.specs.declared.place.Pp.{Pp}
 use Rattle.lvm_num.specs.declared.descriptor.Descriptor.{Descriptor}
 use Rattle.lvm_vol.specs.Facts.{Making, Made}
 use Rattle.lvm_vol.specs.Log.{Log, with_fact}
-use Rattle.lvm_volume_plan.specs.passed.Names.{CommitFault, IsSettled, Leaves}
+use Rattle.lvm_volume_plan.specs.passed.Core.{CommitFault, IsSettled, Leaves}
 use Rattle.lvm_volume_plan.specs.passed.CoreFaultCommitFault as commit
 use Rattle.lvm_session.specs.State.{State}
 use Rattle.lvm_volumes.specs.Endings.{commanding, removing_by, with_descriptor}

@@ -1,3 +1,4 @@
 pub mod CopyPlanCopiesLemmasFewer
 pub mod CopyPlanCopiesLemmasMore
-pub mod Names
+pub mod Even
+pub mod VolumePlan

@@ -9,7 +9,9 @@ use Rattle.lvm_disk.specs.Device.{IsReady}
 use Rattle.lvm_vol.specs.Log.{Log, cut_log}
 use Rattle.lvm_kept.specs.Group.{IsOneOf}
 use Rattle.lvm_kept.specs.Moments.{Moment}
-use Rattle.lvm_volume_plan.specs.passed.Names.{IsDarkened, IsGivenUp, IsOnlyGroupOn, IsOnlyGroupSince, NoneIsLeft, HasLostQuorum, with_one_out, IsHeld, AreNotesHome, Scope, NoPartition, NoVolume, EntersVolumes}
+use Rattle.lvm_volume_plan.specs.passed.Write.{IsDarkened, IsGivenUp}
+use Rattle.lvm_volume_plan.specs.passed.Commit.{IsOnlyGroupOn, IsOnlyGroupSince, NoneIsLeft, HasLostQuorum}
+use Rattle.lvm_volume_plan.specs.passed.Core.{with_one_out, IsHeld, AreNotesHome, Scope, NoPartition, NoVolume, EntersVolumes}
 use Rattle.lvm_session.specs.declared.open.Power.TheVariants as power
 use Rattle.lvm_session.specs.Dark.{all_dark}
 use Rattle.lvm_session.specs.State.{Core, State}

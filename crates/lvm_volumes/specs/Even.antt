@@ -14,7 +14,8 @@ use Rattle.lvm_commit.specs.LawsOfData.{IsFree}
 use Rattle.lvm_write.specs.Written.{KeepsShelf}
 use Rattle.lvm_session.specs.State.{State, is_there}
 use Rattle.lvm_core.specs.Leaves.{NoVolume}
-use Rattle.lvm_volumes.specs.passed.Names.{NoPartition, IsOfCommand, KeepsStatus, row_for, with_volume, without_volume, NewVolume}
+use Rattle.lvm_volumes.specs.passed.Core.{NoPartition, IsOfCommand, KeepsStatus}
+use Rattle.lvm_volumes.specs.passed.VolumePlan.{row_for, with_volume, without_volume, NewVolume}
 use Rattle.lvm_volumes.specs.Volumes.{AreZeroed, IsWith, IsChosen}
 use Rattle.lvm_even.specs.Even.{IsEven}
 

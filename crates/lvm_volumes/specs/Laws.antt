@@ -14,7 +14,8 @@ use Rattle.lvm_kept.specs.Committed.{IsWithinDisks}
 use Rattle.lvm_kept.specs.Group.{members_in, IsOneOf}
 use Rattle.lvm_kept.specs.Kept.{Kept}
 use Rattle.lvm_session.specs.State.{Core, State, is_there}
-use Rattle.lvm_volume_plan.specs.passed.Names.{IsSettled, ShowsCommitted}
+use Rattle.lvm_volume_plan.specs.passed.Core.{IsSettled}
+use Rattle.lvm_volume_plan.specs.passed.Commit.{ShowsCommitted}
 use Rattle.lvm_even.specs.Even.{IsEven}
 use Rattle.lvm_volume_plan.specs.Copies.{with_copies, first_copies}
 use Rattle.lvm_volume_plan.specs.CopiesFaults.{MayBeAdded, LosesNone, MayBeTaken}

@@ -5,7 +5,7 @@ use Rattle.lvm_num.specs.declared.descriptor.Descriptor.{Descriptor}
 use Rattle.lvm_num.specs.Status.{calls_stale}
 use Rattle.lvm_disk.specs.Device.{IsReady}
 use Rattle.lvm_session.specs.State.{Core, State}
-use Rattle.lvm_volume_plan.specs.passed.Names.{CommitFault, IsSettled, Scope, NoPartition, NoVolume, Always}
+use Rattle.lvm_volume_plan.specs.passed.Core.{CommitFault, IsSettled, Scope, NoPartition, NoVolume, Always}
 use Rattle.lvm_volumes.specs.Stages.{CommandBroke}
 use Rattle.lvm_volume_plan.specs.PlannedCopies.{ArePlanned}
 

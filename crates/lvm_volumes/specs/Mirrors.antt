@@ -7,7 +7,7 @@ use Rattle.lvm_num.specs.Descriptor.{volume_of}
 use Rattle.lvm_num.specs.Status.{calls_stale}
 use Rattle.lvm_disk.specs.Device.{IsReady}
 use Rattle.lvm_session.specs.State.{Core, State}
-use Rattle.lvm_volume_plan.specs.passed.Names.{Scope, NoPartition, NoVolume, Always}
+use Rattle.lvm_volume_plan.specs.passed.Core.{Scope, NoPartition, NoVolume, Always}
 use Rattle.lvm_volume_plan.specs.declared.fault.GroupFault.{GroupFault}
 use Rattle.lvm_volume_plan.specs.Faults.{RefusesFor}
 use Rattle.lvm_volume_plan.specs.declared.fault.GroupFault.TheVariants as fault

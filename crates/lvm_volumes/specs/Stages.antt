@@ -10,7 +10,8 @@ use Rattle.lvm_disk.specs.Device.{IsReady}
 use Rattle.lvm_vol.specs.Facts.{Fact, Making, Made}
 use Rattle.lvm_vol.specs.Log.{Log, with_fact}
 use Rattle.lvm_map.specs.FirstFit.{has_partition_on}
-use Rattle.lvm_volume_plan.specs.passed.Names.{Always, NoDescriptor, NoPartition, Scope, IsFree, MarksLeft, CommitFault, IsSettled, HasGoneDark, IsLeftOut, CommitEnds, Leaves, committing, IsAsBefore, last_reads}
+use Rattle.lvm_volume_plan.specs.passed.Core.{Always, NoDescriptor, NoPartition, Scope, CommitFault, IsSettled, HasGoneDark, IsLeftOut, CommitEnds, Leaves, committing, IsAsBefore, last_reads}
+use Rattle.lvm_volume_plan.specs.passed.Commit.{IsFree, MarksLeft}
 use Rattle.lvm_volume_plan.specs.passed.CoreFaultCommitFault as commit
 use Rattle.lvm_session.specs.State.{Core, State, is_there}
 use Rattle.lvm_volumes.specs.Endings.{CommandDarkened, CommandWentOff, CommandStuck, CommandFailed, with_descriptor}

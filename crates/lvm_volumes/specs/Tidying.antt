@@ -9,7 +9,7 @@ use Rattle.lvm_num.specs.Modes.{is_passive}
 use Rattle.lvm_num.specs.Status.{calls_dirty}
 use Rattle.lvm_session.specs.State.{Core, State}
 use Rattle.lvm_volume_plan.specs.CopiesFaults.{has_usable}
-use Rattle.lvm_volume_plan.specs.passed.Names.{CommitFault, HasSpareNumbers, MarkEnds, Scope, dirtying}
+use Rattle.lvm_volume_plan.specs.passed.Core.{CommitFault, HasSpareNumbers, MarkEnds, Scope, dirtying}
 
 -- whether a logical partition of the volume has no copy that can be used
 abbrev pub lacks_usable : Status → LvRow → Bool

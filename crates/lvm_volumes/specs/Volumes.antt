@@ -10,7 +10,7 @@ use Rattle.lvm_vol.specs.Facts.{Making, Made, Removing, Removed}
 use Rattle.lvm_vol.specs.Log.{Log, with_fact}
 use Rattle.lvm_map.specs.FirstFit.{has_partition_on}
 use Rattle.lvm_session.specs.State.{Core, State, is_there}
-use Rattle.lvm_volume_plan.specs.passed.Names.{IsZeroed, Scope}
+use Rattle.lvm_volume_plan.specs.passed.Core.{IsZeroed, Scope}
 use Rattle.lvm_volumes.specs.Endings.{CommandDarkened, CommandWentOff, CommandStuck, CommandFailed, commanding, removing_by, with_descriptor}
 use Rattle.lvm_volume_plan.specs.declared.fault.GroupFault.{GroupFault}
 use Rattle.lvm_volume_plan.specs.declared.fault.GroupFault.TheVariants as fault

@@ -1,2 +1,4 @@
-pub mod Names
+pub mod Core
+pub mod Even
+pub mod VolumePlan
 pub mod VolumePlanFaultGroupFault

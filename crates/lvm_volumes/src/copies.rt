@@ -1,5 +1,5 @@
 //! The addition and the removal of copies.
-ghost use Rattle.lvm_volume_plan.specs.passed.Names.{state_of, Leaves, IsSettled};
+ghost use Rattle.lvm_volume_plan.specs.passed.Core.{state_of, Leaves, IsSettled};
 ghost use Rattle.lvm_volume_plan.specs.Faults.{TakesCommands, IfOn, command_answer};
 ghost use Rattle.lvm_volumes.specs.Endings.{StillHeld, KeepsFresh};
 ghost use Rattle.lvm_volumes.specs.Mirrors.{MklvcopyGives, RmlvcopyGives, to_add, to_take};

@@ -2,7 +2,7 @@
 ghost use Rattle.std.specs.Prelude.{◌≡◌, ◌↔◌, All, IsTrue};
 ghost use Rattle.lvm_num.specs.Descriptor.{IsLaidOut, IsValid};
 ghost use Rattle.lvm_num.specs.Status.{IsVolumeNumber};
-ghost use Rattle.lvm_volume_plan.specs.passed.Names.{state_of, Leaves, IsSettled, HasSpareNumbers};
+ghost use Rattle.lvm_volume_plan.specs.passed.Core.{state_of, Leaves, IsSettled, HasSpareNumbers};
 ghost use Rattle.lvm_volumes.specs.Tidying.{lacks_usable, needs_mark, unneeded, TidyGives, to_tidy};
 
 use arrayvec::ArrayVec;

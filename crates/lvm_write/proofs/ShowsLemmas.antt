@@ -12,7 +12,8 @@ use Rattle.lvm_num.specs.StatusBytes.{status_of}
 use Rattle.lvm_num.specs.Record.{Frames}
 use Rattle.lvm_num.proofs.Booleans.{place_below}
 use Rattle.lvm_quorum.specs.passed.Transfer.{MayWrite, has_records, ChangesBy, RecordWrite, MayWriteAll, IsOfRecord, StandsOn, on_disk, Homes, second_slots}
-use Rattle.lvm_quorum.proofs.passed.Names.{may_write, descriptor_shows, status_shows, wider, whole_is_new}
+use Rattle.lvm_quorum.proofs.passed.Rec.{may_write}
+use Rattle.lvm_quorum.proofs.passed.Kept.{descriptor_shows, status_shows, wider, whole_is_new}
 use Rattle.lvm_disk.specs.Device.{Media, Image, Device, image_of, MayLeave}
 use Rattle.lvm_disk.specs.Steps.{BothTold}
 use Rattle.lvm_write.specs.Written.{write_of, IsWriting}

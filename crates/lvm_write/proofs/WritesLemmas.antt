@@ -10,7 +10,7 @@ use Rattle.lvm_disk.specs.Counts.{Rose}
 use Rattle.lvm_disk.specs.Device.{Device, IsReady}
 use Rattle.lvm_disk.specs.Paths.{Here}
 use Rattle.lvm_quorum.specs.passed.Transfer.{Plan, Moved}
-use Rattle.lvm_quorum.proofs.passed.Names.{never}
+use Rattle.lvm_quorum.proofs.passed.Kept.{never}
 use Rattle.lvm_quorum.specs.passed.TransferMovesMoved as moved
 use Rattle.lvm_quorum.proofs.Passing.{or_itself, or_other}
 use Rattle.lvm_write.specs.declared.write.Wrote.TheVariants as wrote

@@ -1,1 +1,3 @@
-pub mod Names
+pub mod Transfer
+pub mod Vgda
+pub mod Vgsa

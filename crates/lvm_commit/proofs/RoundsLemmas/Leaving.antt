@@ -19,8 +19,8 @@ use Rattle.lvm_num.proofs.AmongLemmas.{any_one}
 use Rattle.lvm_disk.specs.Device.{Device, image_of}
 use Rattle.lvm_kept.specs.Contents.{Contents, contents_of}
 use Rattle.lvm_kept.specs.Group.{passes, is_of, members_in, IsOneOf}
-use Rattle.lvm_status.specs.passed.Names.{IsLostCopy, IsLeftIn, MarksLost, HasMark}
-use Rattle.lvm_status.proofs.passed.Names.{left_same, left_again}
+use Rattle.lvm_status.specs.passed.Status.{IsLostCopy, IsLeftIn, MarksLost, HasMark}
+use Rattle.lvm_status.proofs.passed.Status.{left_same, left_again}
 use Rattle.lvm_status.specs.Members.{HasItsRows}
 use Rattle.lvm_status.specs.Update.{Stored, members_there}
 use Rattle.lvm_status.proofs.Disks.{member-below}

@@ -8,8 +8,8 @@ use Rattle.lvm_num.specs.declared.descriptor.PvRow.{PvRow}
 use Rattle.lvm_num.specs.declared.status.Status.{Status}
 use Rattle.lvm_num.specs.Disks.{Disks}
 use Rattle.lvm_num.specs.Status.{calls_missing}
-use Rattle.lvm_status.specs.passed.Names.{has_row}
-use Rattle.lvm_status.proofs.passed.Names.{any_disk}
+use Rattle.lvm_status.specs.passed.Status.{has_row}
+use Rattle.lvm_status.proofs.passed.Status.{any_disk}
 use Rattle.lvm_status.specs.declared.change.Change.TheVariants as change
 use Rattle.lvm_status.specs.Update.{Stored, Updates, seen}
 use Rattle.lvm_status.specs.Calls.{BecomesMissing, with_wanted, given_up}

@@ -20,7 +20,7 @@ use Rattle.lvm_kept.specs.Group.{is_of, passes}
 use Rattle.lvm_kept.proofs.PlacesLemmas.{at-same, newest-same}
 use Rattle.lvm_kept.specs.Plans.{ChangesBy}
 use Rattle.lvm_kept.specs.Torn.{RecordWrite, IsOfRecord}
-use Rattle.lvm_status.specs.passed.Names.{SameMissing}
+use Rattle.lvm_status.specs.passed.Status.{SameMissing}
 use Rattle.lvm_status.specs.Update.{Stored}
 use Rattle.lvm_steps.specs.Moments.{ImagesKept, StaysKept}
 use Rattle.lvm_steps.proofs.RecordLemmas.{clash}

@@ -16,7 +16,7 @@ use Rattle.lvm_status.specs.Update.{Stored}
 use Rattle.lvm_steps.specs.Moments.{StaysKept}
 use Rattle.lvm_rec.specs.declared.homes.Homes.{Homes}
 use Rattle.lvm_rec.specs.Homes.{second_slots}
-use Rattle.lvm_write.proofs.passed.Names.{is_read_again}
+use Rattle.lvm_write.proofs.passed.Vgsa.{is_read_again}
 use Rattle.lvm_commit.specs.declared.commit.CommitEnd.{CommitEnd}
 use Rattle.lvm_commit.specs.Committed.{next_stamp}
 use Rattle.lvm_commit.specs.LawsOfFinding.{FindsNothingNewOn}

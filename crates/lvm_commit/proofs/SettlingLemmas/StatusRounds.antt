@@ -16,7 +16,7 @@ use Rattle.lvm_disk.proofs.CountingLemmas.{none_falls_at_once}
 use Rattle.lvm_kept.specs.Plans.{ChangesBy}
 use Rattle.lvm_kept.specs.Contents.{contents_of}
 use Rattle.lvm_status.specs.Update.{Stored, members_there}
-use Rattle.lvm_status.specs.passed.Names.{SameMissing}
+use Rattle.lvm_status.specs.passed.Status.{SameMissing}
 use Rattle.lvm_steps.specs.Moments.{StaysKept}
 use Rattle.lvm_status.proofs.RunsLemmas.Sound.{and_left, not_false}
 use Rattle.lvm_steps.proofs.RecordLemmas.{clash, second}

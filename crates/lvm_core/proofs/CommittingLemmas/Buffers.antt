@@ -2,7 +2,7 @@
 use Rattle.std.proofs.Common.{◌≡◌, ℕ, zero, suc, ◌≤◌, Bool, true, false, List, [], ◌∷◌, length, replicate, refl, sym, ◌∙◌, ap, arith, get_or}
 use Rattle.std.specs.Prelude.{slice_set}
 use Rattle.std.proofs.lemmas.List.Elements.{All-head}
-use Rattle.lvm_session.specs.passed.Names.{IsOut, TakesLowest, AreAllOut}
+use Rattle.lvm_session.specs.passed.Pbuf.{IsOut, TakesLowest, AreAllOut}
 use Rattle.lvm_core.specs.Committing.{with_one_out}
 
 first_in : (b : Bool) (rest : List Bool) → b ∷ rest ≡ replicate (length (b ∷ rest)) false → b ≡ false

@@ -14,9 +14,9 @@ use Rattle.lvm_vol.specs.Facts.{Fact}
 use Rattle.lvm_kept.specs.Contents.{contents_of}
 use Rattle.lvm_kept.specs.Moments.{Moment, StaysCalm}
 use Rattle.lvm_kept.specs.Plans.{Plan}
-use Rattle.lvm_commit.specs.passed.Names.{ImagesKept, SpanGoesOn}
+use Rattle.lvm_commit.specs.passed.Steps.{ImagesKept, SpanGoesOn}
 use Rattle.lvm_write.specs.Written.{KeepsShelf}
-use Rattle.lvm_commit.proofs.passed.Names.{spelled_is_read}
+use Rattle.lvm_commit.proofs.passed.Vgda.{spelled_is_read}
 use Rattle.lvm_commit.specs.Committed.{IsAlike}
 use Rattle.lvm_commit.specs.LawsOfFinding.{FindsNoMoreOn}
 use Rattle.lvm_commit.specs.LawsOfVolumes.{VolumeServes, VolumesServe}

@@ -16,8 +16,8 @@ use Rattle.lvm_vol.specs.Log.{Log, cut_log}
 use Rattle.lvm_kept.specs.Moments.{Moment, StaysCalm}
 use Rattle.lvm_kept.specs.Plans.{Plan, ChangesBy}
 use Rattle.lvm_kept.specs.Torn.{RecordWrite}
-use Rattle.lvm_commit.specs.passed.Names.{ImagesKept, RunBegins, HistoryHolds, Keeps, at, beginning_at, IsOtherOrEarlier}
-use Rattle.lvm_commit.proofs.passed.Names.{keeps_path, earlier_stays_behind, session_is_before_later}
+use Rattle.lvm_commit.specs.passed.Steps.{ImagesKept, RunBegins, HistoryHolds, Keeps, at, beginning_at, IsOtherOrEarlier}
+use Rattle.lvm_commit.proofs.passed.Steps.{keeps_path, earlier_stays_behind, session_is_before_later}
 use Rattle.lvm_status.specs.Table.{SameMissing}
 use Rattle.lvm_status.specs.Update.{Stored, members_there}
 use Rattle.lvm_write.proofs.WrittenLemmas.Writing.{both_map, changes_more}

@@ -9,8 +9,8 @@ use Rattle.lvm_vol.specs.Facts.{Fact, Cut}
 use Rattle.lvm_vol.specs.Log.{Log, with_fact, is_uncut, cut_log}
 use Rattle.lvm_kept.specs.Moments.{Moment, Step, Moves, StaysCalm}
 use Rattle.lvm_kept.proofs.MomentsLemmas.Chaining.{span_counts, span_told}
-use Rattle.lvm_commit.specs.passed.Names.{RunBegins, Keeps, at}
-use Rattle.lvm_commit.proofs.passed.Names.{quiet_goes_on, calm_goes_on}
+use Rattle.lvm_commit.specs.passed.Steps.{RunBegins, Keeps, at}
+use Rattle.lvm_commit.proofs.passed.Steps.{quiet_goes_on, calm_goes_on}
 
 -- no count falls on the way
 pub path_falls : {P : Device → Type 0} (old new : Device) → Path DeviceStep P old new → NoneFalls old.counts new.counts

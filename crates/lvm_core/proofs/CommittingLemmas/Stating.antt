@@ -16,7 +16,7 @@ use Rattle.lvm_vol.specs.Facts.{Fact}
 use Rattle.lvm_kept.specs.Moments.{Moment, StaysCalm}
 use Rattle.lvm_kept.specs.Plans.{Plan}
 use Rattle.lvm_kept.specs.Group.{IsOneOf}
-use Rattle.lvm_commit.specs.passed.Names.{RunBegins, StaysKept, SpanGoesOn}
+use Rattle.lvm_commit.specs.passed.Steps.{RunBegins, StaysKept, SpanGoesOn}
 use Rattle.lvm_status.specs.Update.{Stored}
 use Rattle.lvm_write.specs.Written.{KeepsShelf}
 use Rattle.lvm_commit.specs.Committed.{IsAlike, AreOne, MayMark}

@@ -7,7 +7,7 @@ use Rattle.lvm_disk.specs.Device.{Device, IsReady}
 use Rattle.lvm_vol.specs.Facts.{On}
 use Rattle.lvm_vol.specs.Log.{Log}
 use Rattle.lvm_status.specs.Table.{has_row}
-use Rattle.lvm_session_start.specs.passed.Names.{Waiting}
+use Rattle.lvm_session_start.specs.passed.Hold.{Waiting}
 use Rattle.lvm_mwc.specs.Entries.{AreEntries}
 use Rattle.lvm_status.specs.Update.{Updates}
 use Rattle.lvm_rec.specs.declared.homes.Homes.{Homes}

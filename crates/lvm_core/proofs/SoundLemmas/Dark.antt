@@ -4,7 +4,7 @@ use Rattle.std.proofs.lemmas.List.{append-nil}
 use Rattle.lvm_disk.specs.Device.{Device, Flight}
 use Rattle.lvm_vol.specs.Facts.{Fact, Cut, begun_by}
 use Rattle.lvm_vol.specs.Log.{Log, cut_log, is_uncut, lands_id, with_fact}
-use Rattle.lvm_session_start.proofs.passed.Names.{open_still}
+use Rattle.lvm_session_start.proofs.passed.Keeps.{open_still}
 use Rattle.lvm_session.specs.declared.open.Open.{Open}
 use Rattle.lvm_session.specs.declared.open.Power.{Power}
 use Rattle.lvm_session.specs.declared.flown.Flown.{Flown}

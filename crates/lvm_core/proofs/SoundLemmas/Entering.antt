@@ -5,7 +5,7 @@ use Rattle.lvm_vol.specs.declared.entry.Entry.{Entry}
 use Rattle.lvm_vol.specs.declared.entry.Entry.TheVariants as entry
 use Rattle.lvm_vol.specs.Facts.{Fact, Making, Made, Split, Removing, Removed}
 use Rattle.lvm_vol.specs.Log.{is_open, with_fact, plain_fact}
-use Rattle.lvm_session_start.proofs.passed.Names.{open_still}
+use Rattle.lvm_session_start.proofs.passed.Keeps.{open_still}
 use Rattle.lvm_session.specs.State.{Core, state}
 use Rattle.lvm_core.specs.Sound.{IsSoundAtRest}
 use Rattle.lvm_core.specs.Entering.{IsEntryOfCommand, last_reads}

@@ -5,7 +5,7 @@ use Rattle.lvm_num.specs.declared.descriptor.Descriptor.{Descriptor}
 use Rattle.lvm_num.specs.Descriptor.{IsValid}
 use Rattle.lvm_num.specs.DescriptorBytes.{descriptor_bytes}
 use Rattle.lvm_disk.specs.Device.{Device}
-use Rattle.lvm_session.specs.passed.Names.{IsOut}
+use Rattle.lvm_session.specs.passed.Pbuf.{IsOut}
 use Rattle.lvm_session.specs.State.{Core, State}
 use Rattle.lvm_session.specs.Dark.{all_dark}
 use Rattle.lvm_status.specs.Update.{Stored}

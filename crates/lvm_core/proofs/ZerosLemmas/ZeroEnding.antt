@@ -6,11 +6,11 @@ use Rattle.lvm_num.specs.Geometry.{data_start}
 use Rattle.lvm_disk.specs.Device.{Media, Image, image_of, MayLeave}
 use Rattle.lvm_kept.specs.Places.{SameRecords}
 use Rattle.lvm_kept.specs.Plans.{ChangesBy}
-use Rattle.lvm_commit.specs.passed.Names.{Moved}
+use Rattle.lvm_commit.specs.passed.Transfer.{Moved}
 use Rattle.lvm_commit.specs.passed.TransferMovesMoved as moved
 use Rattle.lvm_write.specs.Parts.{DoesPart}
 use Rattle.lvm_write.proofs.WrittenLemmas.Writing.{if_told, told_at, both_from}
-use Rattle.lvm_commit.proofs.passed.Names.{data_stays_behind}
+use Rattle.lvm_commit.proofs.passed.Steps.{data_stays_behind}
 use Rattle.lvm_commit.specs.Committed.{HoldsCommitted}
 use Rattle.lvm_commit.specs.LawsOfFinding.{FindsNothingNewOn, FindsNothingNew}
 use Rattle.lvm_commit.proofs.LawsOfDataLemmas.Still.{data_keeps_committed}

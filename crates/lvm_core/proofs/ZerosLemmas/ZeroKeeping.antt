@@ -19,8 +19,9 @@ use Rattle.lvm_kept.specs.Moments.{Moment, StaysCalm}
 use Rattle.lvm_kept.specs.Plans.{ChangesBy}
 use Rattle.lvm_kept.proofs.PlacesLemmas.{data_writes}
 use Rattle.lvm_kept.proofs.CommittedLemmas.Finding.{images_within}
-use Rattle.lvm_commit.specs.passed.Names.{ImagesKept, Keeps, SpanGoesOn, at, Moved}
-use Rattle.lvm_commit.proofs.passed.Names.{media_may, keeps_path}
+use Rattle.lvm_commit.specs.passed.Steps.{ImagesKept, Keeps, SpanGoesOn, at}
+use Rattle.lvm_commit.specs.passed.Transfer.{Moved}
+use Rattle.lvm_commit.proofs.passed.Steps.{media_may, keeps_path}
 use Rattle.lvm_status.specs.Update.{Stored}
 use Rattle.lvm_commit.specs.passed.TransferMovesMoved as moved
 use Rattle.lvm_write.specs.Parts.{DoesPart}

@@ -11,9 +11,9 @@ use Rattle.lvm_num.specs.Geometry.{data_start, partition_blocks}
 use Rattle.lvm_disk.specs.Device.{Media, Flight, Device, IsReady, image_of, written}
 use Rattle.lvm_disk.specs.Steps.{Puts}
 use Rattle.lvm_kept.specs.Plans.{ChangesBy, IsPlanned}
-use Rattle.lvm_commit.specs.passed.Names.{TransferGives, flight_of, Moved}
+use Rattle.lvm_commit.specs.passed.Transfer.{TransferGives, flight_of, Moved}
 use Rattle.lvm_commit.specs.passed.TransferMovesMoved as moved
-use Rattle.lvm_commit.proofs.passed.Names.{one_left, out_flights}
+use Rattle.lvm_commit.proofs.passed.Transfer.{one_left, out_flights}
 use Rattle.lvm_write.specs.Parts.{IfMoved}
 use Rattle.lvm_write.specs.Written.{IsInPlan, KeepsShelf}
 use Rattle.lvm_write.proofs.WrittenLemmas.Writing.{if_told, told_at, both_from, stand_told}

@@ -11,7 +11,7 @@ use Rattle.lvm_num.specs.Geometry.{data_start, sector_of}
 use Rattle.lvm_num.specs.Note.{note_in}
 use Rattle.lvm_num.specs.Record.{Stamped, slot_start, slot_size}
 use Rattle.lvm_num.specs.StatusBytes.{status_of}
-use Rattle.lvm_kept.specs.passed.Names.{Media, Image, Device, IsInFlight, IsCrashImage, image_of, MayLeave}
+use Rattle.lvm_kept.specs.passed.Disk.{Media, Image, Device, IsInFlight, IsCrashImage, image_of, MayLeave}
 use Rattle.lvm_kept.specs.Contents.{has_records, newest_at, descriptor_on, status_on, note_on, note_sector, data_at, contents_of}
 use Rattle.lvm_kept.specs.Group.{names_if, is_named, block_at}
 use Rattle.lvm_kept.specs.Plans.{ChangesBy}

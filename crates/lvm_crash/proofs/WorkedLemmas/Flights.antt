@@ -9,7 +9,7 @@ use Rattle.lvm_num.specs.declared.descriptor.Mode.{Mode}
 use Rattle.lvm_num.specs.declared.descriptor.Mode.TheVariants.{Active, Passive, Off}
 use Rattle.lvm_num.specs.Buffer.{Sector, zero_sector}
 use Rattle.lvm_num.specs.Geometry.{sector_of}
-use Rattle.lvm_kept.specs.passed.Names.{Flight, IsInFlight, written, image_of}
+use Rattle.lvm_kept.specs.passed.Disk.{Flight, IsInFlight, written, image_of}
 use Rattle.lvm_vol.specs.Facts.{Begun}
 use Rattle.lvm_kept.specs.Contents.{contents_of}
 use Rattle.lvm_kept.specs.Examples.{two}

@@ -12,7 +12,8 @@ use Rattle.lvm_num.specs.Note.{note_in, note_bytes}
 use Rattle.lvm_num.specs.Record.{Stamped, Frames, record_sectors, slot_start, stamp_lt}
 use Rattle.lvm_num.specs.StatusBytes.{status_of}
 use Rattle.lvm_num.proofs.TornLemmas.Fresh.{before_is_fresh}
-use Rattle.lvm_kept.specs.passed.Names.{slot_to_write, MayWrite, Flight, IsInFlight, written}
+use Rattle.lvm_kept.specs.passed.Rec.{slot_to_write, MayWrite}
+use Rattle.lvm_kept.specs.passed.Disk.{Flight, IsInFlight, written}
 use Rattle.lvm_vol.specs.Facts.{Begun}
 use Rattle.lvm_kept.specs.Contents.{note_sector, contents_of}
 use Rattle.lvm_kept.specs.Examples.{two}

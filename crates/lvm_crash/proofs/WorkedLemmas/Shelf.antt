@@ -21,7 +21,8 @@ use Rattle.lvm_num.specs.Torn.{slot_at}
 use Rattle.lvm_num.proofs.NoteLemmas.{written_is_read}
 use Rattle.lvm_num.proofs.TornLemmas.Torn.{whole_is_read}
 use Rattle.lvm_num.proofs.TornLemmas.Fresh.{before_is_older}
-use Rattle.lvm_kept.specs.passed.Names.{held, slot_of, newest_on, read_under, Image, image_of}
+use Rattle.lvm_kept.specs.passed.Rec.{held, slot_of, newest_on, read_under}
+use Rattle.lvm_kept.specs.passed.Disk.{Image, image_of}
 use Rattle.lvm_vol.specs.Facts.{Fact}
 use Rattle.lvm_kept.specs.Contents.{note_sector, has_records, descriptor_on, status_on, note_on, data_at, contents_of}
 use Rattle.lvm_kept.specs.Examples.{stamped, either_of, two}

@@ -1,2 +1,2 @@
 -- Passed on from the crates below.
-pub use Rattle.lvm_session.proofs.passed.Names.{blocked_tells}
+pub use Rattle.lvm_session.proofs.passed.Hold.{blocked_tells}

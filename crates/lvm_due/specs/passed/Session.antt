@@ -11,4 +11,5 @@ pub use Rattle.lvm_session.specs.State.{Core, votes_there}
 pub use Rattle.lvm_session.specs.declared.bringing.OpenCopy.{OpenCopy}
 pub use Rattle.lvm_session.specs.declared.event.Event.{Event}
 pub use Rattle.lvm_session.specs.declared.open.Open.{Open}
-pub use Rattle.lvm_session.specs.passed.Names.{flight_on, is_named, members_there}
+pub use Rattle.lvm_session.specs.passed.Mwc.{flight_on, is_named}
+pub use Rattle.lvm_session.specs.passed.Status.{members_there}

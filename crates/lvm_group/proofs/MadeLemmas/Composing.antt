@@ -14,7 +14,7 @@ use Rattle.lvm_write.proofs.PartsLemmas.Transfers.{darkened_then, given_up_then}
 use Rattle.lvm_transfer.specs.Reading.{IsUnwritten, IsRested}
 use Rattle.lvm_write.specs.Beginning.{Beginning, Part, new_beginning, new_order, IsOfParts, PartIsWritten as PartStands}
 use Rattle.lvm_write.specs.Ends.{BothFlip, HasNoFault, StopsAt, IsLowestFailed, WasTriedOnTargets}
-use Rattle.lvm_group.specs.passed.Names.{Room, Cause}
+use Rattle.lvm_group.specs.passed.Core.{Room, Cause}
 use Rattle.lvm_group.specs.passed.CoreRefusedCause as cause
 use Rattle.lvm_group.specs.NewGroup.{NewGroup, among, size_for, given_up, MayMakeGroup, RefusesFirst}
 use Rattle.lvm_group.specs.Shown.{IsClear}

@@ -20,8 +20,11 @@ use Rattle.lvm_steps.proofs.MomentsLemmas.Spans.{group_goes_on}
 use Rattle.lvm_kept.specs.Group.{IsOneOf}
 use Rattle.lvm_status.specs.Update.{Updates, Stored, members_there}
 use Rattle.lvm_steps.specs.Behind.{IsAhead, ClockIsAhead}
-use Rattle.lvm_group.specs.passed.Names.{NoneIsLeft, Room, HaveAllLanded, IsSettled, HasSpareNumbers, ArePlaced, first_core, Core, Parts}
-use Rattle.lvm_group.proofs.passed.Names.{starts_settled, starts_numbered}
+use Rattle.lvm_group.specs.passed.Commit.{NoneIsLeft}
+use Rattle.lvm_group.specs.passed.Core.{Room, HaveAllLanded, IsSettled, HasSpareNumbers}
+use Rattle.lvm_group.specs.passed.Session.{ArePlaced, Core}
+use Rattle.lvm_group.specs.passed.SessionStart.{first_core, Parts}
+use Rattle.lvm_group.proofs.passed.Core.{starts_settled, starts_numbered}
 use Rattle.lvm_group.specs.NewGroup.{NewGroup, size_for, new_group, new_status}
 use Rattle.lvm_group.specs.Made.{IsMade}
 use Rattle.lvm_group.specs.Steps.{RecordsStand}

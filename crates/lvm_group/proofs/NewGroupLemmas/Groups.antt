@@ -15,7 +15,8 @@ use Rattle.lvm_num.specs.Geometry.{data_start, partition_count, sectors_needed}
 use Rattle.lvm_num.specs.Name.{is_name}
 use Rattle.lvm_num.specs.Status.{IsStatusRow, IsValidStatus, calls_missing}
 use Rattle.lvm_status.specs.Table.{has_row}
-use Rattle.lvm_core.specs.passed.Names.{IsOneGroup, IsPlaced, ArePlaced}
+use Rattle.lvm_core.specs.passed.SessionStart.{IsOneGroup}
+use Rattle.lvm_core.specs.passed.Session.{IsPlaced, ArePlaced}
 use Rattle.lvm_group.specs.NewGroup.{among, sectors_on, member_for, descriptor_for, clear_row, disks_in_order, status_for, first_absent, first_too_small}
 use Rattle.lvm_group.proofs.NewGroupLemmas.Searches.{none_found, any_map, any_filter, in_order, order_rises, order_below, few_in_order}
 

@@ -6,7 +6,7 @@ use Rattle.lvm_num.specs.Buffer.{Buffer}
 use Rattle.lvm_disk.specs.Device.{Device}
 use Rattle.lvm_vol.specs.Log.{Log}
 use Rattle.lvm_session.specs.State.{Core}
-use Rattle.lvm_group_lines.specs.passed.Names.{Post}
+use Rattle.lvm_group_lines.specs.passed.Posts.{Post}
 use Rattle.lvm_group_lines.specs.Groups.{VaryoffDoes, VariesOff}
 use Rattle.lvm_group_lines.specs.Asking.{EndsSession}
 use Rattle.lvm_group_lines.specs.Ends.{EndsUnasked}

@@ -11,7 +11,7 @@ use Rattle.lvm_core.specs.State.{state_of}
 use Rattle.lvm_session.specs.Sound.{IsSound}
 use Rattle.lvm_session.specs.State.{Core}
 use Rattle.lvm_group_lines.specs.passed.Handover.{HasJustBegun, Serves}
-use Rattle.lvm_group_lines.specs.passed.Names.{Post}
+use Rattle.lvm_group_lines.specs.passed.Posts.{Post}
 use Rattle.lvm_group_lines.specs.passed.Quiesce.{CauseRose, IsStartedEach}
 use Rattle.lvm_group_lines.specs.Groups.{Brings}
 use Rattle.lvm_group_lines.specs.Ends.{patience_of_line}

@@ -15,8 +15,8 @@ use Rattle.lvm_steps.proofs.LawsLemmas.Clock.{later_is_later_too}
 use Rattle.lvm_session.specs.declared.open.Open.{Open}
 use Rattle.lvm_session.specs.State.{Core, votes_there}
 use Rattle.lvm_session.specs.Sound.{waits}
-use Rattle.lvm_quiesce.specs.passed.Names.{HaveAllLanded}
-use Rattle.lvm_tie_commands.specs.passed.Names.{Post, ended_with}
+use Rattle.lvm_quiesce.specs.passed.Core.{HaveAllLanded}
+use Rattle.lvm_tie_commands.specs.passed.Posts.{Post, ended_with}
 use Rattle.lvm_quiesce.specs.Behind.{IsAheadEach}
 use Rattle.lvm_quiesce.proofs.LawsLemmas.Behind.{each_is_behind, later_is_behind_each}
 use Rattle.lvm_transfer.specs.Transfer.{Relights}

@@ -26,7 +26,7 @@ use Rattle.lvm_session.specs.Requests.{IsLanded}
 use Rattle.lvm_session.specs.Sound.{HasPower, IsSound, is_dark, waits}
 use Rattle.lvm_session.specs.State.{Core, State, state}
 use Rattle.lvm_status.specs.Members.{HasItsRows}
-use Rattle.lvm_quiesce.specs.passed.Names.{HaveAllLanded}
+use Rattle.lvm_quiesce.specs.passed.Core.{HaveAllLanded}
 use Rattle.lvm_tie_commands.specs.passed.Tie.{IsGood, moment_of, IsBefore}
 use Rattle.lvm_group_lines.specs.passed.Tie.{MovesOn}
 use Rattle.lvm_quiesce.specs.Behind.{IsAheadEach}

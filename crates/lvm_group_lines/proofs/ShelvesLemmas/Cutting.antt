@@ -26,8 +26,10 @@ use Rattle.lvm_session.specs.Sound.{IsSound, waits}
 use Rattle.lvm_session.specs.State.{Core, State, state, votes_there}
 use Rattle.lvm_session.specs.Turns.{ArrangesSession}
 use Rattle.lvm_keeps.proofs.KeepsLemmas.Orders.{order_keeps}
-use Rattle.lvm_group_lines.specs.passed.Names.{HaveAllLanded, IsSettled as IsSettledCore, Post, AreAnswered, ended_with}
-use Rattle.lvm_group_lines.proofs.passed.Names.{cut_landed, over_answered}
+use Rattle.lvm_group_lines.specs.passed.Core.{HaveAllLanded, IsSettled as IsSettledCore}
+use Rattle.lvm_group_lines.specs.passed.Posts.{Post, AreAnswered, ended_with}
+use Rattle.lvm_group_lines.proofs.passed.Core.{cut_landed}
+use Rattle.lvm_group_lines.proofs.passed.Posts.{over_answered}
 use Rattle.lvm_group_lines.proofs.passed.Tie.{leaves_move_on, order_leaves}
 use Rattle.lvm_group_lines.specs.passed.Quiesce.{IsAheadEach}
 use Rattle.lvm_group_lines.proofs.passed.Quiesce.{fewer_stay_behind}

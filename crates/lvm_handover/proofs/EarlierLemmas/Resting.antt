@@ -6,7 +6,7 @@ use Rattle.lvm_vol.specs.Log.{is_open, taken_fact}
 use Rattle.lvm_keeps.proofs.SoundLemmas.Telling.{open_still}
 use Rattle.lvm_session.specs.State.{State, state}
 use Rattle.lvm_core.specs.Sound.{IsSoundAtRest}
-use Rattle.lvm_ranges.specs.passed.Names.{Asked, takings}
+use Rattle.lvm_ranges.specs.passed.Posts.{Asked, takings}
 use Rattle.lvm_handover.specs.Earlier.{with_taken}
 
 -- what has landed has

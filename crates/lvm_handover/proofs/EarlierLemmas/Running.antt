@@ -14,7 +14,7 @@ use Rattle.lvm_session.specs.Sound.{IsSound}
 use Rattle.lvm_session.specs.State.{State, state}
 use Rattle.lvm_going.specs.Going.{TakesEarlier}
 use Rattle.lvm_going.proofs.EarlierLemmas.{one_keeps}
-use Rattle.lvm_ranges.specs.passed.Names.{Asked, AreAnswered, takings}
+use Rattle.lvm_ranges.specs.passed.Posts.{Asked, AreAnswered, takings}
 use Rattle.lvm_ranges.specs.passed.Tie.{RunsOn}
 use Rattle.lvm_ranges.proofs.passed.Tie.{runs_both, runs_none}
 use Rattle.lvm_handover.proofs.passed.Going.{runs_one}

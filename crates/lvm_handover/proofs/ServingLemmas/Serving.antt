@@ -42,7 +42,7 @@ use Rattle.lvm_session.specs.Placed.{ArePlaced, IsPlaced}
 use Rattle.lvm_session.specs.Requests.{IsOpenOne}
 use Rattle.lvm_session.specs.Sound.{IsAsked, IsCopy, IsFitting, IsGoing, IsOn, IsSound, IsTold, count_if, hands_with, is_hand, may_be_fresh, pins, stays_fresh, waiting_rows, waits, with_row}
 use Rattle.lvm_session.proofs.WorkedLemmas.Parts.{idle_is_sound}
-use Rattle.lvm_handover.specs.passed.Names.{IsSettled, IsSoundAtRest}
+use Rattle.lvm_handover.specs.passed.Core.{IsSettled, IsSoundAtRest}
 use Rattle.lvm_keeps.proofs.Lists.{count_cons}
 use Rattle.lvm_num.proofs.AmongLemmas.{any_one}
 use Rattle.std.proofs.lemmas.Bool.{or_left, or_right}

@@ -24,7 +24,7 @@ use Rattle.lvm_kept.specs.Group.{IsAlike, IsOneOf}
 use Rattle.lvm_status.specs.Update.{members_there}
 use Rattle.lvm_commit.specs.Settling.{NoneIsLeft, SpendsNumbers}
 use Rattle.lvm_commit.proofs.AmongLemmas.{contains, of_map}
-use Rattle.lvm_volumes.proofs.passed.Names.{row_is_volume}
+use Rattle.lvm_volumes.proofs.passed.Even.{row_is_volume}
 use Rattle.lvm_write.proofs.NextLemmas.{copy_is_placed, is_member_of}
 use Rattle.lvm_session.specs.State.{Core, State, is_there}
 use Rattle.lvm_session.specs.Judging.{copies_in, is_missing, is_settled, is_wanted_stale}
@@ -32,11 +32,11 @@ use Rattle.lvm_session.specs.Causes.{is_held_stale}
 use Rattle.lvm_session.specs.Left.{updates_left}
 use Rattle.lvm_session.specs.Marks.{is_among}
 use Rattle.lvm_session.specs.Sound.{IsGoing, IsSound, may_be_fresh, stays_fresh}
-use Rattle.lvm_handover.specs.passed.Names.{KeepsStatus, Leaves, NoPartition, NoVolume, WasLeftBehind, IsSettled}
+use Rattle.lvm_handover.specs.passed.Core.{KeepsStatus, Leaves, NoPartition, NoVolume, WasLeftBehind, IsSettled}
 use Rattle.std.proofs.lemmas.Bool.{or_left, or_right}
 use Rattle.lvm_volumes.specs.passed.VolumePlanFaultGroupFault as fault
-use Rattle.lvm_volumes.specs.passed.Names.{NewVolume, HasSpareRoom, row_for, with_volume, without_volume}
-use Rattle.lvm_volumes.proofs.passed.Names.{one_filter, one_insert}
+use Rattle.lvm_volumes.specs.passed.VolumePlan.{NewVolume, HasSpareRoom, row_for, with_volume, without_volume}
+use Rattle.lvm_volumes.proofs.passed.VolumePlan.{one_filter, one_insert}
 use Rattle.lvm_volumes.specs.Endings.{HasFresh, KeepsFresh, StillHeld}
 use Rattle.lvm_volumes.specs.Volumes.{IsChosen, IsVolumeMade, IsVolumeRemoved, IsWith, MakingFails, making, removing, to_make, to_remove}
 use Rattle.lvm_volumes.proofs.StagesLemmas.Entering.{many_bound}

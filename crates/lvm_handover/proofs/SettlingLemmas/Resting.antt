@@ -25,7 +25,7 @@ use Rattle.lvm_session.specs.State.{Core, State, is_there, votes_there}
 use Rattle.lvm_session.specs.Enabled.{first_of, has_buffer, is_status_due, landing, or_next, parts_to_settle, parts_to_start, same_status}
 use Rattle.lvm_session.specs.Owners.{flies, same_owner}
 use Rattle.lvm_session.specs.Sound.{IsGoing, IsOn, IsSound, count_if}
-use Rattle.lvm_handover.specs.passed.Names.{IsSettled, HasNoneOpen, HasNothingUnderWay, IsSoundAtRest}
+use Rattle.lvm_handover.specs.passed.Core.{IsSettled, HasNoneOpen, HasNothingUnderWay, IsSoundAtRest}
 use Rattle.lvm_handover.specs.passed.Driver.{IsDrained}
 use Rattle.lvm_handover.specs.Settling.{DrainedRests, MayHandOver}
 use Rattle.lvm_handover.proofs.SoundLemmas.{buffers_back, none_flown, sound_between}

@@ -6,7 +6,7 @@ use Rattle.lvm_num.proofs.Lists.{all_weaker, all_at}
 use Rattle.lvm_session.specs.declared.open.Open.{Open}
 use Rattle.lvm_session.specs.Judging.{is_waiting, place_of, held_of}
 use Rattle.lvm_session.specs.Dark.{IsAscending}
-use Rattle.lvm_session.specs.passed.Names.{Row}
+use Rattle.lvm_session.specs.passed.Hold.{Row}
 use Rattle.lvm_session.specs.Sound.{waiting_rows}
 use Rattle.lvm_keeps.proofs.Lists.{all_removed}
 

@@ -14,14 +14,14 @@ use Rattle.lvm_num.specs.Disks.{Disks, has}
 use Rattle.lvm_num.specs.Votes.{is_enough_to_write, total_votes, votes_of}
 use Rattle.lvm_num.proofs.MarksLemmas.Maps.{find-Some}
 use Rattle.lvm_num.proofs.Booleans.{not_so}
-use Rattle.lvm_session.specs.passed.Names.{members_there}
+use Rattle.lvm_session.specs.passed.Status.{members_there}
 use Rattle.lvm_path.specs.declared.request.Phase.{Phase}
 use Rattle.lvm_path.specs.declared.request.Phase.TheVariants as phase
 use Rattle.lvm_path.specs.declared.request.Request.{Request}
 use Rattle.lvm_path.specs.declared.target.Target.{Target}
 use Rattle.lvm_path.specs.Asks.{is_write, lv_of}
 use Rattle.lvm_path.specs.Targets.{are_over, is_begun}
-use Rattle.lvm_path.specs.passed.Names.{is_waiting as is_unstarted}
+use Rattle.lvm_path.specs.passed.Sched.{is_waiting as is_unstarted}
 use Rattle.lvm_session.specs.declared.bringing.OpenCopy.{OpenCopy}
 use Rattle.lvm_session.specs.declared.bringing.Step.{Step}
 use Rattle.lvm_session.specs.declared.bringing.Step.TheVariants as step

@@ -9,7 +9,7 @@ use Rattle.lvm_num.specs.Disks.{has}
 use Rattle.lvm_num.specs.Descriptor.{is_pp}
 use Rattle.lvm_num.proofs.Booleans.{not_so}
 use Rattle.lvm_num.proofs.Lists.{all_weaker, length_set}
-use Rattle.lvm_session.specs.passed.Names.{Device, Flight, Range, IsNewTicket, Starts}
+use Rattle.lvm_session.specs.passed.Disk.{Device, Flight, Range, IsNewTicket, Starts}
 use Rattle.lvm_session.specs.declared.bringing.CopyEnd.{CopyEnd}
 use Rattle.lvm_session.specs.declared.bringing.CopyEnd.TheVariants as ending
 use Rattle.lvm_session.specs.declared.bringing.OpenCopy.{OpenCopy}

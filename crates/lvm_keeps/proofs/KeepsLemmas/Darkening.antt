@@ -10,7 +10,8 @@ use Rattle.lvm_num.specs.Status.{calls_stale}
 use Rattle.lvm_num.specs.declared.status.Status.{Status}
 use Rattle.lvm_num.proofs.Booleans.{not_so, not_either}
 use Rattle.lvm_num.proofs.Lists.{all_weaker}
-use Rattle.lvm_session.specs.passed.Names.{Device, Flight, Media, GoesDark, Stored}
+use Rattle.lvm_session.specs.passed.Disk.{Device, Flight, Media, GoesDark}
+use Rattle.lvm_session.specs.passed.Status.{Stored}
 use Rattle.lvm_vol.specs.declared.entry.Outcome.{Outcome}
 use Rattle.lvm_vol.specs.declared.entry.Outcome.TheVariants as outcome
 use Rattle.lvm_vol.specs.Facts.{Cut, Request}

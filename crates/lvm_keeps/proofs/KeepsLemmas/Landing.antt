@@ -10,7 +10,7 @@ use Rattle.lvm_num.proofs.Lists.{all_at}
 use Rattle.lvm_vol.specs.declared.entry.Outcome.{Outcome}
 use Rattle.lvm_vol.specs.declared.entry.Outcome.TheVariants as outcome
 use Rattle.lvm_mwc.proofs.FirstsLemmas.{none_at}
-use Rattle.lvm_path.specs.passed.Names.{is_flying, is_waiting as is_unstarted, next_target, TargetState}
+use Rattle.lvm_path.specs.passed.Sched.{is_flying, is_waiting as is_unstarted, next_target, TargetState}
 use Rattle.lvm_path.specs.passed.SchedWritesTargetState as stage
 use Rattle.lvm_path.specs.declared.facts.Facts.{Facts}
 use Rattle.lvm_path.specs.declared.facts.Next.{Next}

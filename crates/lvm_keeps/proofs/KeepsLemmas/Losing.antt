@@ -9,7 +9,7 @@ use Rattle.lvm_num.specs.Status.{calls_missing}
 use Rattle.lvm_num.specs.Votes.{votes_in}
 use Rattle.lvm_num.proofs.VotesLemmas.{more_have_more, more_is_enough}
 use Rattle.lvm_num.proofs.Booleans.{not_so}
-use Rattle.lvm_session.specs.passed.Names.{members_there}
+use Rattle.lvm_session.specs.passed.Status.{members_there}
 use Rattle.lvm_session.specs.State.{Core, State, is_there, votes_there}
 use Rattle.lvm_session.specs.Judging.{is_missing}
 use Rattle.lvm_session.specs.Enabled.{is_lost}

@@ -9,7 +9,7 @@ use Rattle.lvm_num.specs.declared.descriptor.Mode.TheVariants as mode
 use Rattle.lvm_num.specs.Descriptor.{is_member}
 use Rattle.lvm_num.proofs.Booleans.{not_so}
 use Rattle.lvm_num.proofs.Lists.{all_weaker, all_at, length_set}
-use Rattle.lvm_session.specs.passed.Names.{Device, Flight, Range, IsNewTicket, Starts}
+use Rattle.lvm_session.specs.passed.Disk.{Device, Flight, Range, IsNewTicket, Starts}
 use Rattle.lvm_mwc.specs.Cache.{after_start, flight_on, has_disk, is_named}
 use Rattle.lvm_mwc.specs.Entries.{note_of, pins_of}
 use Rattle.lvm_path.specs.declared.request.Phase.{Phase}

@@ -1,6 +1,6 @@
 -- A client gives an order to the shelf.
 use Rattle.std.proofs.Common.{inl, Bool, true, false, refl, sym, subst}
-use Rattle.lvm_session.specs.passed.Names.{Arrange, Device, ArrangeGives, with_order}
+use Rattle.lvm_session.specs.passed.Disk.{Arrange, Device, ArrangeGives, with_order}
 use Rattle.lvm_session.specs.passed.DiskShelfArrange as arrange
 use Rattle.lvm_session.specs.State.{Core, State, state}
 use Rattle.lvm_session.specs.Dark.{after_arrange}

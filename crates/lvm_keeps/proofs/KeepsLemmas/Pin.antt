@@ -10,7 +10,7 @@ use Rattle.lvm_num.specs.declared.descriptor.Mode.{Mode}
 use Rattle.lvm_num.specs.declared.descriptor.Mode.TheVariants as mode
 use Rattle.lvm_num.proofs.Booleans.{not_so}
 use Rattle.lvm_num.proofs.Lists.{all_weaker, all_at, length_set, set_beside}
-use Rattle.lvm_session.specs.passed.Names.{Flight}
+use Rattle.lvm_session.specs.passed.Disk.{Flight}
 use Rattle.lvm_mwc.specs.Cache.{Cached, after_pin}
 use Rattle.lvm_mwc.specs.Entries.{AreEntries, are_all_pinned, pins_of, with_pin as with_entry}
 use Rattle.lvm_mwc.specs.Runs.{IsAllowed, Pins as PinsGroup}

@@ -5,8 +5,8 @@ use Rattle.std.specs.List.{list_any, remove, AllByRecursion}
 use Rattle.std.specs.Option.{option_map_or}
 use Rattle.std.proofs.lemmas.Bool.{eqb-true, eqb-false, ne_eqb}
 use Rattle.lvm_num.specs.declared.place.Pp.{Pp}
-use Rattle.lvm_session.specs.passed.Names.{Flight}
-use Rattle.lvm_path.specs.passed.Names.{is_flying}
+use Rattle.lvm_session.specs.passed.Disk.{Flight}
+use Rattle.lvm_path.specs.passed.Sched.{is_flying}
 use Rattle.lvm_vol.specs.declared.entry.Outcome.{Outcome}
 use Rattle.lvm_vol.specs.Facts.{Fact}
 use Rattle.lvm_vol.specs.Legal.{begins_in}

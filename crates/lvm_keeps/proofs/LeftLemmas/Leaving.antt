@@ -3,7 +3,7 @@ use Rattle.std.proofs.Common.{◌≡◌, ◌+◌, ◌*◌, ◌&&◌, ◌∙◌, 
 use Rattle.std.specs.List.{sum_by}
 use Rattle.std.specs.Prelude.{count_by}
 use Rattle.lvm_vol.specs.Log.{Log}
-use Rattle.lvm_session.specs.passed.Names.{Waiting}
+use Rattle.lvm_session.specs.passed.Hold.{Waiting}
 use Rattle.lvm_mwc.specs.declared.entries.CacheEntry.{CacheEntry}
 use Rattle.lvm_path.specs.declared.request.Phase.{Phase}
 use Rattle.lvm_path.specs.declared.request.Phase.TheVariants as phase

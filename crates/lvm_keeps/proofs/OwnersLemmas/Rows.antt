@@ -4,7 +4,9 @@ use Rattle.std.specs.Prelude.{count_by}
 use Rattle.std.specs.List.{AllByRecursion}
 use Rattle.std.proofs.lemmas.Bool.{eq-eqb}
 use Rattle.lvm_num.specs.declared.descriptor.Descriptor.{Descriptor}
-use Rattle.lvm_session.specs.passed.Names.{Flight, Waiting, Homes}
+use Rattle.lvm_session.specs.passed.Disk.{Flight}
+use Rattle.lvm_session.specs.passed.Hold.{Waiting}
+use Rattle.lvm_session.specs.passed.Rec.{Homes}
 use Rattle.lvm_vol.specs.Log.{Log}
 use Rattle.lvm_mwc.specs.declared.entries.CacheEntry.{CacheEntry}
 use Rattle.lvm_mwc.specs.Cache.{Cached}

@@ -5,7 +5,7 @@ use Rattle.lvm_num.specs.declared.status.Status.{Status}
 use Rattle.lvm_num.specs.Descriptor.{IsValid, is_member}
 use Rattle.lvm_mwc.specs.Entries.{AreEntries}
 use Rattle.lvm_mwc.specs.Cache.{has_disk}
-use Rattle.lvm_session.specs.passed.Names.{HasItsRows}
+use Rattle.lvm_session.specs.passed.Status.{HasItsRows}
 use Rattle.lvm_session.specs.State.{Core}
 use Rattle.lvm_session.specs.Sound.{IsFitting}
 

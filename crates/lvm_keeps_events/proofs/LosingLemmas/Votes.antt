@@ -12,7 +12,7 @@ use Rattle.lvm_status.specs.Update.{members_there}
 use Rattle.lvm_session.specs.State.{State, is_there, votes_there}
 use Rattle.lvm_session.specs.Enabled.{is_lost}
 use Rattle.lvm_session.specs.Judging.{is_missing}
-use Rattle.lvm_keeps_events.proofs.passed.Names.{witness, both, is_false}
+use Rattle.lvm_keeps_events.proofs.passed.Keeps.{witness, both, is_false}
 use Rattle.lvm_keeps_events.specs.Losing.{HasFailedOn, LosesByFaults, LostForFaults, VotesGoByFaults}
 
 none_of : (rows : List PvRow) → list_any (λ (row : PvRow). false) rows ≡ false

@@ -18,7 +18,7 @@ use Rattle.lvm_session.specs.Causes.{fails_on}
 use Rattle.lvm_session.specs.Dark.{ended_as}
 use Rattle.lvm_session.specs.Events.{Chooses, ChoosesBy, destination_target, target_at}
 use Rattle.lvm_session.specs.State.{State}
-use Rattle.lvm_keeps_events.proofs.passed.Names.{both}
+use Rattle.lvm_keeps_events.proofs.passed.Keeps.{both}
 use Rattle.lvm_keeps_events.proofs.TargetsLemmas.{at_state}
 use Rattle.lvm_keeps_events.proofs.Lists.{either, set_either}
 

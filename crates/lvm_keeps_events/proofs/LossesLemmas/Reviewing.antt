@@ -15,7 +15,7 @@ use Rattle.lvm_session.specs.State.{Core}
 use Rattle.lvm_session.specs.Judging.{is_missing, is_running}
 use Rattle.lvm_session.specs.Bringing.{after_copy_end, copy_ends, end_by_sources, end_of, ends_if, is_cleared, is_done_end, is_whole, marked_by_end, with_end, is_held_stale}
 use Rattle.lvm_session.specs.Marks.{Reviews, is_entailed}
-use Rattle.lvm_keeps_events.proofs.passed.Names.{both}
+use Rattle.lvm_keeps_events.proofs.passed.Keeps.{both}
 use Rattle.lvm_keeps_events.proofs.JudgingLemmas.DuesMarks.{pp_same}
 use Rattle.lvm_keeps_events.proofs.JudgingLemmas.Review.{left_behind}
 use Rattle.lvm_keeps_events.specs.Losses.{has_failed_on, is_lasting, is_marked}

@@ -39,7 +39,7 @@ use Rattle.lvm_session.specs.Sound.{IsCopy, IsSound}
 use Rattle.lvm_session.proofs.MovesLemmas.{place_open, stale_of}
 use Rattle.lvm_session.specs.State.{Core, State}
 use Rattle.lvm_session.specs.Turns.{Darkens, FinishMakes, Finishes, GoesOff, Makes, Moves, NoStart, OnMakes, TurnMakes, WasDark, WasOff, WasOn}
-use Rattle.lvm_keeps_events.proofs.passed.Names.{set_here, both}
+use Rattle.lvm_keeps_events.proofs.passed.Keeps.{set_here, both}
 use Rattle.lvm_keeps_events.specs.DataEnds.{EndsData}
 use Rattle.lvm_keeps_events.proofs.TargetsLemmas.{set_state}
 use Rattle.lvm_keeps_events.proofs.DataEndsLemmas.{aim, aim_is, entails, going, long, mid, o, own, place, rose, there, x}

@@ -54,7 +54,7 @@ use Rattle.lvm_calls.proofs.LogLemmas.{below_next}
 use Rattle.lvm_calls.specs.Opening.{counts_seen, faults_seen}
 use Rattle.lvm_calls.proofs.OpeningLemmas.{IsTaken, copies_are, taken}
 use Rattle.lvm_calls.proofs.Tables.{queue_before, rows_are}
-use Rattle.lvm_calls.proofs.passed.Names.{few_copies}
+use Rattle.lvm_calls.proofs.passed.Due.{few_copies}
 use Rattle.lvm_keeps.specs.Keeps.{OpenKeeps}
 use Rattle.lvm_keeps.proofs.CausesLemmas.{counted_still, landed_still, origin_still}
 use Rattle.lvm_keeps.proofs.SoundLemmas.Fitting.{still_fits}

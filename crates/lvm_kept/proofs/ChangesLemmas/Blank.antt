@@ -2,7 +2,7 @@
 use Rattle.std.proofs.Common.{◌≡◌, ℕ, zero, suc, ◌<◌, ◌≤◌, Bool, true, false, List, ◌++◌, Option, None, Some, Result, refl, ap, ◌∙◌, arith}
 use Rattle.std.specs.Prelude.{if◌then◌else◌, option_and_then, nat_le, nat_lt}
 use Rattle.std.proofs.lemmas.Bool.{ltb-true, leb-true, and_parts}
-use Rattle.lvm_disk.specs.passed.Names.{Descriptor, Kind, zero_sector, Disks, data_start, descriptor_of, status_of, Stamped, joined, record_in, newer, newest_below}
+use Rattle.lvm_disk.specs.passed.Num.{Descriptor, Kind, zero_sector, Disks, data_start, descriptor_of, status_of, Stamped, joined, record_in, newer, newest_below}
 use Rattle.lvm_disk.specs.passed.NumRecordKind as kind
 use Rattle.lvm_rec.specs.Slots.{read_under, newest_on}
 use Rattle.lvm_disk.specs.Device.{Image}

@@ -1,8 +1,8 @@
 -- Changes of data and of notes, under the same descriptors and statuses.
 use Rattle.std.proofs.Common.{◌≡◌, ◌⊎◌, inl, inr, ⊎_elim, ℕ, List, [], ◌∷◌, ◌++◌, Option, refl, sym, subst, ◌∙◌}
-use Rattle.lvm_disk.specs.passed.Names.{Pp, LvRow, Mode, Descriptor, Status, Sector, Disks, all_disks, Stamped, Noted}
+use Rattle.lvm_disk.specs.passed.Num.{Pp, LvRow, Mode, Descriptor, Status, Sector, Disks, all_disks, Stamped, Noted}
 use Rattle.lvm_disk.specs.passed.NumDescriptorMode.{Active, Passive, Off}
-use Rattle.lvm_disk.proofs.passed.Names.{all_two}
+use Rattle.lvm_disk.proofs.passed.Num.{all_two}
 use Rattle.lvm_vol.specs.declared.entry.Vol.TheVariants.{Disk, Lv}
 use Rattle.lvm_vol.specs.Facts.{Fact, Cut}
 use Rattle.lvm_vol.specs.May.{Known, known, May, IsValue}

@@ -3,9 +3,9 @@ use Rattle.std.proofs.Common.{◌≡◌, ◌⊎◌, inl, inr, ⊎_elim, ℕ, Boo
 use Rattle.std.specs.Prelude.{IsTrue, if◌then◌else◌, ◌==◌, IsSomeAnd, is_some, find}
 use Rattle.std.proofs.lemmas.Option.{same_Some}
 use Rattle.std.proofs.lemmas.Bool.{eqb-true}
-use Rattle.lvm_disk.specs.passed.Names.{Pp, Mode, LvRow, Descriptor, Status, Sector, Disks, volume_of, Stamped, all_disks}
+use Rattle.lvm_disk.specs.passed.Num.{Pp, Mode, LvRow, Descriptor, Status, Sector, Disks, volume_of, Stamped, all_disks}
 use Rattle.lvm_disk.specs.passed.NumDescriptorMode.{Active, Passive, Off}
-use Rattle.lvm_disk.proofs.passed.Names.{all_weaker}
+use Rattle.lvm_disk.proofs.passed.Num.{all_weaker}
 use Rattle.lvm_vol.specs.declared.entry.Vol.{Vol}
 use Rattle.lvm_vol.specs.declared.entry.Vol.TheVariants.{Disk, Lv}
 use Rattle.lvm_vol.specs.Facts.{Request, Fact, Begun, Cut, IsInList, is_over, block_of}

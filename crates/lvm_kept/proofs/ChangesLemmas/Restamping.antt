@@ -5,9 +5,9 @@ use Rattle.std.specs.List.{AllByRecursion}
 use Rattle.std.proofs.lemmas.Option.{same_Some}
 use Rattle.std.proofs.lemmas.Bool.{eqb-true, and_parts, and_from}
 use Rattle.std.proofs.lemmas.Bool.Decides.{nat_tests}
-use Rattle.lvm_disk.specs.passed.Names.{Stamp, Pp, Mode, LvRow, Descriptor, Status, Disks, track_group_of, copies_of, all_disks, votes_in, CanRead, Stamped, stamp_lt, newest_below}
+use Rattle.lvm_disk.specs.passed.Num.{Stamp, Pp, Mode, LvRow, Descriptor, Status, Disks, track_group_of, copies_of, all_disks, votes_in, CanRead, Stamped, stamp_lt, newest_below}
 use Rattle.lvm_disk.specs.passed.NumDescriptorMode.{Active, Passive, Off}
-use Rattle.lvm_disk.proofs.passed.Names.{more_have_more, more_is_enough, is_one, is_last, without_first}
+use Rattle.lvm_disk.proofs.passed.Num.{more_have_more, more_is_enough, is_one, is_last, without_first}
 use Rattle.lvm_vol.specs.declared.entry.Vol.TheVariants.{Lv}
 use Rattle.lvm_vol.specs.Facts.{Fact, Cut}
 use Rattle.lvm_vol.specs.May.{Known, known, IsValue}

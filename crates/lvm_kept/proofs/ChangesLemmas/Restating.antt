@@ -1,7 +1,7 @@
 -- Changes of statuses, under the same descriptors.
 use Rattle.std.proofs.Common.{◌≡◌, ◌⊎◌, ⊎_elim, ℕ, ◌<◌, List, [], ◌∷◌, Option, Some, refl, sym, ap, subst, ◌∙◌}
 use Rattle.std.proofs.lemmas.Option.{same_Some}
-use Rattle.lvm_disk.specs.passed.Names.{LvRow, Descriptor, Status, Disks, all_disks, Stamped}
+use Rattle.lvm_disk.specs.passed.Num.{LvRow, Descriptor, Status, Disks, all_disks, Stamped}
 use Rattle.lvm_vol.specs.Facts.{Fact}
 use Rattle.lvm_kept.specs.Contents.{Contents}
 use Rattle.lvm_kept.specs.Group.{descriptor_among, is_voter, has_quorum, status_among, Finds, IsFound, members_in, status_by, ReadsGroup, ReadsBy, fresh_on, IsOneOf, IsSome}

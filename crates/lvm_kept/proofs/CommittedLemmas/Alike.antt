@@ -3,8 +3,8 @@ use Rattle.std.proofs.Common.{◌≡◌, ⊎_elim, ℕ, Bool, true, ◌&&◌, []
 use Rattle.std.specs.Prelude.{IsTrue}
 use Rattle.std.proofs.lemmas.Option.{same_Some}
 use Rattle.std.proofs.lemmas.Bool.{eqb-true}
-use Rattle.lvm_disk.specs.passed.Names.{Descriptor, Disks, is_member, all_disks, votes_in, is_enough_to_read, CanRead, Stamped}
-use Rattle.lvm_disk.proofs.passed.Names.{is_one, is_last, more_have_more, more_is_enough, without_first}
+use Rattle.lvm_disk.specs.passed.Num.{Descriptor, Disks, is_member, all_disks, votes_in, is_enough_to_read, CanRead, Stamped}
+use Rattle.lvm_disk.proofs.passed.Num.{is_one, is_last, more_have_more, more_is_enough, without_first}
 use Rattle.lvm_kept.specs.Contents.{Contents}
 use Rattle.lvm_kept.specs.Group.{passes, is_of, has_room, descriptor_among, is_voter, has_quorum, IsFound, members_in, IsAlike}
 use Rattle.lvm_kept.specs.Committed.{SameVotes, OneFoundIsOnly, OneShownIsOne}

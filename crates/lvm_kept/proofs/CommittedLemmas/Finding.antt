@@ -4,8 +4,8 @@ use Rattle.std.specs.Prelude.{IsTrue, if◌then◌else◌, nat_lt, nat_le, sum_b
 use Rattle.std.proofs.lemmas.Option.{same_Some}
 use Rattle.std.proofs.lemmas.Bool.{ltb-true}
 use Rattle.std.proofs.lemmas.Bool.Decides.{nat_tests}
-use Rattle.lvm_disk.specs.passed.Names.{Stamp, Kind, PvRow, Descriptor, Status, Disks, data_start, descriptor_of, status_of, votes_by, votes_in, all_disks, is_enough_to_read, CanRead, Stamped, stamp_lt, newest_below}
-use Rattle.lvm_disk.proofs.passed.Names.{read_meets_write, read_meets_read, is_one, is_last, first_holds, let_through, passed_if}
+use Rattle.lvm_disk.specs.passed.Num.{Stamp, Kind, PvRow, Descriptor, Status, Disks, data_start, descriptor_of, status_of, votes_by, votes_in, all_disks, is_enough_to_read, CanRead, Stamped, stamp_lt, newest_below}
+use Rattle.lvm_disk.proofs.passed.Num.{read_meets_write, read_meets_read, is_one, is_last, first_holds, let_through, passed_if}
 use Rattle.lvm_rec.specs.Slots.{newest_on}
 use Rattle.lvm_disk.specs.Device.{Image}
 use Rattle.lvm_kept.specs.Contents.{has_records, newest_at, descriptor_on, status_on, Contents}

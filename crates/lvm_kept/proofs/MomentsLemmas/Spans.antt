@@ -1,7 +1,7 @@
 -- Moments of a run with one entry more, and what a still shelf may leave.
 use Rattle.std.proofs.Common.{◌≡◌, inl, ⊎_elim, ◌+◌, ◌∷◌, ◌++◌, [], ℕ, List, Option, Some, None, cond, count_by, refl, sym, subst, arith, append_assoc}
 use Rattle.std.proofs.lemmas.List.Sums.{sum_by-append}
-use Rattle.lvm_disk.specs.passed.Names.{Sector}
+use Rattle.lvm_disk.specs.passed.Num.{Sector}
 use Rattle.lvm_disk.specs.Device.{Media, Image, Flight, Device, SameDisks, image_of, MayLeave, IsCrashImage}
 use Rattle.lvm_disk.specs.Steps.{BothTold}
 use Rattle.lvm_vol.specs.Facts.{Fact}

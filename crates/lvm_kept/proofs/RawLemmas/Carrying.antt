@@ -1,7 +1,7 @@
 -- Where the blocks of a raw request lie, and what its flight carries.
 use Rattle.std.proofs.Common.{◌≡◌, ◌==◌, nat_le, nat_lt, ◌≤◌, ◌<◌, ◌+◌, ◌-◌, ◌&&◌, ◌∷◌, [], ℕ, zero, suc, List, Bool, Some, None, true, false, cond, length, take, slice_get, slice_index_or, refl, sym, ◌∙◌, ap, arith}
 use Rattle.std.proofs.lemmas.Bool.{eqb-true, ltb-true, leb-true}
-use Rattle.lvm_disk.specs.passed.Names.{Buffer, Sector}
+use Rattle.lvm_disk.specs.passed.Num.{Buffer, Sector}
 use Rattle.lvm_vol.specs.declared.entry.Vol.TheVariants.{Disk}
 use Rattle.lvm_vol.specs.Facts.{is_over}
 use Rattle.lvm_kept.specs.Raw.{raw_request, CarriesRequest}

@@ -1,6 +1,6 @@
 -- A read of a raw disk gets values that its blocks may have, and leaves the images kept.
 use Rattle.std.proofs.Common.{◌≡◌, inl, ◌≤◌, ◌<◌, ◌+◌, ◌∷◌, ◌++◌, [], ℕ, List, Bool, Some, true, false, if◌then◌else◌, length, refl, sym, ◌∙◌, ap, subst, arith}
-use Rattle.lvm_disk.specs.passed.Names.{Sector, data_start}
+use Rattle.lvm_disk.specs.passed.Num.{Sector, data_start}
 use Rattle.lvm_disk.specs.Device.{Image}
 use Rattle.lvm_vol.specs.declared.entry.Vol.TheVariants.{Disk}
 use Rattle.lvm_vol.specs.declared.entry.Outcome.TheVariants as outcome

@@ -1,6 +1,6 @@
 -- Crash images stay kept while a write of a raw disk goes through.
 use Rattle.std.proofs.Common.{◌≡◌, ◌⊎◌, inl, inr, ⊎_elim, ◌≤◌, ◌<◌, ◌∷◌, ◌++◌, [], ℕ, List, Bool, Option, Some, None, true, false, if◌then◌else◌, unwrap_or, refl, sym, ◌∙◌, ap, subst}
-use Rattle.lvm_disk.specs.passed.Names.{Sector, data_start}
+use Rattle.lvm_disk.specs.passed.Num.{Sector, data_start}
 use Rattle.lvm_disk.specs.Device.{Image, Flight, SameDisks, written}
 use Rattle.lvm_disk.specs.Images.{DiffersBy}
 use Rattle.lvm_disk.specs.Steps.{Puts, PutsSome}

@@ -3,9 +3,9 @@ use Rattle.std.proofs.Common.{◌≡◌, ◌⊎◌, inl, inr, ⊎_elim, ℕ, ◌
 use Rattle.std.specs.Prelude.{IsTrue, IsFalse, nat_le, nat_lt, if◌then◌else◌}
 use Rattle.std.proofs.lemmas.Bool.{cases_Bool}
 use Rattle.std.proofs.lemmas.Bool.Decides.{nat_tests}
-use Rattle.lvm_disk.specs.passed.Names.{Stamp, Kind, Descriptor, Status, Sector, data_start, descriptor_of, status_of, Frames, Stamped, frame, record_sectors, slot_start, slot_size, stamp_lt, Sectors, AllBefore, stamp_of}
+use Rattle.lvm_disk.specs.passed.Num.{Stamp, Kind, Descriptor, Status, Sector, data_start, descriptor_of, status_of, Frames, Stamped, frame, record_sectors, slot_start, slot_size, stamp_lt, Sectors, AllBefore, stamp_of}
 use Rattle.lvm_disk.specs.passed.NumRecordKind as kind
-use Rattle.lvm_disk.proofs.passed.Names.{sectors-fit}
+use Rattle.lvm_disk.proofs.passed.Num.{sectors-fit}
 use Rattle.lvm_rec.specs.Slots.{newest_on, IsOfSlot, IsTornWrite}
 use Rattle.lvm_rec.proofs.SlotsLemmas.SlotLaws.{slots-apart, newest_stays_or_is_new, whole_is_newest, keeps_before}
 use Rattle.lvm_disk.specs.Device.{Image}
@@ -13,7 +13,7 @@ use Rattle.lvm_kept.specs.Contents.{newest_at, descriptor_on, status_on, note_on
 use Rattle.lvm_kept.specs.Plans.{ChangesBy}
 use Rattle.lvm_kept.specs.Torn.{NewestStays, RecordWrite, on_disk, IsOfRecord, IsOtherOrRecord, StandsOn, MayWriteAll, written, NewestIsOldOrNew, WholeIsNew, DescriptorWriteShows, StatusWriteShows, EarlierStaysBefore}
 use Rattle.lvm_kept.proofs.PlacesLemmas.{room-same, newest-same, at-same, note-same, data-same}
-pub use Rattle.lvm_disk.proofs.passed.Names.{clash as never}
+pub use Rattle.lvm_disk.proofs.passed.Num.{clash as never}
 
 -- ---- places
 

@@ -3,7 +3,7 @@ use Rattle.std.proofs.Common.{◌≡◌, ◌⊎◌, inl, inr, ⊎_elim, ℕ, ◌
 use Rattle.std.specs.Prelude.{IsTrue, if◌then◌else◌, unwrap_or, IsSomeAnd}
 use Rattle.std.proofs.lemmas.Bool.{cases_lt}
 use Rattle.std.proofs.lemmas.List.{length-replicate, get_or-replicate, get_or_past}
-use Rattle.lvm_disk.specs.passed.Names.{Kind, Sector, zero_sector, IsSector, Disks, note_in, descriptor_of, status_of, slot_start, kind_magic}
+use Rattle.lvm_disk.specs.passed.Num.{Kind, Sector, zero_sector, IsSector, Disks, note_in, descriptor_of, status_of, slot_start, kind_magic}
 use Rattle.lvm_disk.specs.passed.NumRecordKind as kind
 use Rattle.lvm_disk.specs.Device.{Media, Image, Flight, written as flown, IsInFlight, IsCrashImage, image_of}
 use Rattle.lvm_disk.specs.Steps.{BothTold, Puts}

@@ -28,7 +28,7 @@ use Rattle.lvm_volume_lines.proofs.Ending.{FaultFacts}
 use Rattle.lvm_volume_lines.proofs.passed.Ranges.{off_votes}
 use Rattle.lvm_line.proofs.CausesLemmas.Knowing.{IsOther, Known, has_by}
 use Rattle.lvm_line.proofs.CausesLemmas.Turns.{dark_cause, off_cause, stuck_cause}
-use Rattle.lvm_volume_lines.specs.passed.Names.{GroupFault, ends_session}
+use Rattle.lvm_volume_lines.specs.passed.VolumePlan.{GroupFault, ends_session}
 use Rattle.lvm_volume_lines.specs.passed.VolumePlanFaultGroupFault as fault
 
 -- votes that are too few to write are at most half

@@ -16,7 +16,7 @@ use Rattle.lvm_session.specs.Causes.{AnyFailedSince, AreCounted, TargetHasFailed
 use Rattle.lvm_session.specs.Sound.{IsAsked, IsSound, outcome_in}
 use Rattle.lvm_session.specs.State.{Core, State}
 use Rattle.lvm_volume_lines.specs.passed.GroupLines.{ScriptState}
-use Rattle.lvm_volume_lines.proofs.passed.Names.{loss_is_caused}
+use Rattle.lvm_volume_lines.proofs.passed.Keeps.{loss_is_caused}
 use Rattle.lvm_line.specs.Told.{HasFailedSince, OutcomeCause}
 
 -- ---- a request of the table that has landed

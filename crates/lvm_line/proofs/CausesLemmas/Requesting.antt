@@ -8,7 +8,7 @@ use Rattle.lvm_session.specs.declared.answers.Turned.{Turned}
 use Rattle.lvm_session.specs.declared.answers.Turned.TheVariants as turned
 use Rattle.lvm_session.specs.Calls.{has_numbers}
 use Rattle.lvm_session.specs.State.{Core, State, votes_there}
-use Rattle.lvm_volume_lines.proofs.passed.Names.{votes_go}
+use Rattle.lvm_volume_lines.proofs.passed.KeepsEvents.{votes_go}
 use Rattle.lvm_line.proofs.CausesLemmas.Votes.{moved_votes_go}
 use Rattle.lvm_num.specs.declared.descriptor.Descriptor.{Descriptor}
 use Rattle.lvm_num.specs.Status.{calls_missing}

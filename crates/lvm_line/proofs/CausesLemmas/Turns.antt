@@ -10,7 +10,7 @@ use Rattle.lvm_session.specs.declared.open.Power.TheVariants as power
 use Rattle.lvm_session.specs.Causes.{AnyFailedSince}
 use Rattle.lvm_session.specs.Sound.{IsSound, is_dark}
 use Rattle.lvm_session.specs.State.{Core, State, state}
-use Rattle.lvm_volume_lines.specs.passed.Names.{LostForFaults}
+use Rattle.lvm_volume_lines.specs.passed.KeepsEvents.{LostForFaults}
 use Rattle.lvm_volume_lines.specs.passed.Ranges.{AnyFailed}
 use Rattle.lvm_volume_lines.specs.passed.RangeLines.{FailsIf, IsOverWith, CarriesBy}
 use Rattle.lvm_volume_lines.specs.passed.Tie.{LeavesMoving, LeavesSession, MovesOn}

@@ -6,8 +6,8 @@ use Rattle.lvm_kept.specs.Group.{IsAlike}
 use Rattle.lvm_status.specs.Update.{members_there}
 use Rattle.lvm_session.specs.Enabled.{is_lost}
 use Rattle.lvm_session.specs.State.{State, state}
-use Rattle.lvm_volume_lines.specs.passed.Names.{LosesByFaults, LostForFaults}
-use Rattle.lvm_volume_lines.proofs.passed.Names.{votes_go}
+use Rattle.lvm_volume_lines.specs.passed.KeepsEvents.{LosesByFaults, LostForFaults}
+use Rattle.lvm_volume_lines.proofs.passed.KeepsEvents.{votes_go}
 
 -- the votes are counted over the members, which stay
 pub moved_votes_go : (old new : State) → IsAlike new.core.descriptor old.core.descriptor → LosesByFaults old new → is_lost new.core ≡ true → LostForFaults old new

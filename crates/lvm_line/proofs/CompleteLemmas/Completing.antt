@@ -8,7 +8,7 @@ use Rattle.lvm_session.specs.State.{Core, state}
 use Rattle.lvm_volume_lines.specs.passed.Resync.{AnyFails}
 use Rattle.lvm_volume_lines.specs.passed.GroupLines.{Refusal, ScriptState}
 use Rattle.lvm_volume_lines.specs.passed.RefusalVariants as refusal
-use Rattle.lvm_volume_lines.specs.passed.Names.{LostForFaults}
+use Rattle.lvm_volume_lines.specs.passed.KeepsEvents.{LostForFaults}
 use Rattle.lvm_line.specs.Causes.{CauseOf, HasCause, TransferHasFailed, HasFailedInSession, RangeLineCause, RoseOn, TurnCause, WereLost, disk_of}
 use Rattle.lvm_line.specs.Complete.{CompleteLaw, HasLostVotes, IsByRule, IsOwn, NothingFailed, RuleLaw}
 use Rattle.lvm_line.proofs.CausesLemmas.Causing.{has_cause}

@@ -20,8 +20,8 @@ use Rattle.lvm_session.specs.Sound.{IsSound}
 use Rattle.lvm_session.specs.State.{Core, State}
 use Rattle.lvm_session.specs.Turns.{TurnMakes}
 use Rattle.lvm_keeps_events.specs.Telling.{TurnTells}
-use Rattle.lvm_driver.specs.passed.Names.{LeavesSession, RunsOn}
-use Rattle.lvm_driver.proofs.passed.Names.{goes_any, path_frames}
+use Rattle.lvm_driver.specs.passed.Going.{LeavesSession, RunsOn}
+use Rattle.lvm_driver.proofs.passed.Going.{goes_any, path_frames}
 use Rattle.lvm_ranges.specs.Passing.{Runs}
 use Rattle.lvm_ranges.proofs.CallsLemmas.{opened_so, refused_for}
 use Rattle.lvm_ranges.proofs.PassingLemmas.Bringing.{runs_under_way}

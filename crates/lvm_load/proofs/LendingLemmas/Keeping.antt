@@ -3,8 +3,8 @@ use Rattle.std.proofs.Common.{◌≡◌, Bool, true, false, refl, sym, ap, ◌�
 use Rattle.lvm_session.specs.declared.open.Power.TheVariants as power
 use Rattle.lvm_session.specs.State.{State}
 use Rattle.lvm_vol.specs.Log.{Log}
-use Rattle.lvm_driver.specs.passed.Names.{LeavesSession, RunsOn}
-use Rattle.lvm_driver.proofs.passed.Names.{goes_any, leaves_both, leaves_none, path_frames, path_shape, stays_unstuck}
+use Rattle.lvm_driver.specs.passed.Going.{LeavesSession, RunsOn}
+use Rattle.lvm_driver.proofs.passed.Going.{goes_any, leaves_both, leaves_none, path_frames, path_shape, stays_unstuck}
 use Rattle.lvm_load.specs.Lending.{KeepsServing}
 
 -- ---- what is kept of it: the only places that look into what a session leaves

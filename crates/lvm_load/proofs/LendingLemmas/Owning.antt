@@ -17,7 +17,7 @@ use Rattle.lvm_session.specs.Dark.{landings}
 use Rattle.lvm_session.specs.Judging.{is_waiting}
 use Rattle.lvm_session.specs.State.{Core, State}
 use Rattle.lvm_session.specs.Turns.{Darkens, FinishMakes, Finishes, GoesOff, Makes, Moves, NoStart, OnMakes, TurnMakes, WasDark, WasOff, WasOn}
-use Rattle.lvm_driver.proofs.passed.Names.{ends_history}
+use Rattle.lvm_driver.proofs.passed.Going.{ends_history}
 use Rattle.lvm_workers.specs.Counting.{AreOfClients}
 
 -- entries were added that are nobody's own

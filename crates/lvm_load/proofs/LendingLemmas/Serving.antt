@@ -34,9 +34,9 @@ use Rattle.lvm_keeps_events.specs.Telling.{CannotGoOn, TurnTells}
 use Rattle.lvm_keeps.proofs.Lists.{any_removed}
 use Rattle.lvm_keeps.proofs.Small.{both}
 use Rattle.lvm_keeps_events.proofs.TurnCallsLemmas.{some_position, turn_leaves_table}
-use Rattle.lvm_driver.specs.passed.Names.{RunsOn, is_moving}
+use Rattle.lvm_driver.specs.passed.Going.{RunsOn, is_moving}
 use Rattle.lvm_driver.proofs.StandingLemmas.{none_waits_still}
-use Rattle.lvm_driver.proofs.passed.Names.{path_shape}
+use Rattle.lvm_driver.proofs.passed.Going.{path_shape}
 use Rattle.lvm_workers.specs.Counting.{AreOfClients}
 use Rattle.lvm_load.specs.Lending.{ByLook, ByTake, HoldsOpen, IsDrawnAs, IsNotTaken, IsServing, KeepsServing, LooksOn, Plan, drawn_ask, drawn_bytes, refused_as, seen_behind, shaped, told_in}
 use Rattle.lvm_load.specs.Requests.{ask_of, bytes_of, word_of}

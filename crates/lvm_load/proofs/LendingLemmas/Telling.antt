@@ -12,7 +12,7 @@ use Rattle.lvm_session.specs.Causes.{is_over}
 use Rattle.lvm_session.specs.Sound.{count_if, is_dark}
 use Rattle.lvm_session.specs.State.{State}
 use Rattle.lvm_driver.specs.Showing.{counts_of, fixed_by, volumes_of}
-use Rattle.lvm_driver.specs.passed.Names.{KeepsShape}
+use Rattle.lvm_driver.specs.passed.Going.{KeepsShape}
 use Rattle.lvm_load.specs.Lending.{counts_in}
 
 shelf_counts : (old new : Counts) → NoneFalls old new → (disks : List ℕ)

@@ -38,7 +38,7 @@ use Rattle.lvm_session.specs.Bringing.{block_at, end_by_sources, end_of, ends_if
 use Rattle.lvm_session.specs.Judging.{copies_in, facts_of, group_of, is_missing, is_running, is_stale, is_usable, lp_of}
 use Rattle.lvm_session.specs.Enabled.{copy_read, copy_write, data_at, data_start, first_from, first_of, has_buffer, is_status_due, is_unnamed, may_read, may_write, note_at, note_due, note_start, or_next, parts_to_start, status_start, target_due, target_next, wants_record}
 use Rattle.lvm_session.specs.Calls.{copy_at}
-use Rattle.lvm_moves.proofs.passed.Names.{at_place}
+use Rattle.lvm_moves.proofs.passed.Due.{at_place}
 use Rattle.lvm_session.specs.Requests.{IsAimed, IsOpenOne, IsRequest, IsTarget}
 use Rattle.lvm_session.specs.Sound.{IsCopy}
 use Rattle.lvm_session.proofs.MovesLemmas.{move_of, move_partition, open_one, place_open, stale_of}

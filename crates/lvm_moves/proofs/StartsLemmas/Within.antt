@@ -16,7 +16,7 @@ use Rattle.lvm_disk.specs.Steps.{IsRange}
 use Rattle.lvm_kept.specs.Contents.{note_sector}
 use Rattle.lvm_session.specs.State.{Core}
 use Rattle.lvm_session.specs.Judging.{copies_in, is_missing}
-use Rattle.lvm_moves.proofs.passed.Names.{copies_in_are}
+use Rattle.lvm_moves.proofs.passed.Due.{copies_in_are}
 use Rattle.lvm_session.specs.Marks.{is_among}
 use Rattle.lvm_moves.specs.Starts.{MayStartTransfer}
 

@@ -12,7 +12,7 @@ use Rattle.lvm_quorum.specs.declared.row.SurveyRow.{SurveyRow}
 use Rattle.lvm_quorum.specs.Reading.{home_of, under, IsArea}
 use Rattle.lvm_quorum.specs.Surveyed.{home_on, IsEmpty, IsRead}
 use Rattle.lvm_quorum.specs.Surveying.{IsRowOfArea, IsSmall}
-use Rattle.lvm_quorum.proofs.passed.Names.{or_got}
+use Rattle.lvm_quorum.proofs.passed.Transfer.{or_got}
 use Rattle.lvm_quorum.proofs.ShownDescriptorLemmas.{is_there, where_it_has}
 
 -- ---- whether a disk has records

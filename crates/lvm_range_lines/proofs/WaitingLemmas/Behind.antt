@@ -8,7 +8,7 @@ use Rattle.lvm_vol.specs.Log.{Log}
 use Rattle.lvm_kept.specs.Moments.{Moment}
 use Rattle.lvm_steps.specs.Moments.{Keeps}
 use Rattle.lvm_steps.specs.Requests.{at}
-use Rattle.lvm_group_lines.specs.passed.Names.{is_of_volume, HaveAllLanded}
+use Rattle.lvm_group_lines.specs.passed.Core.{is_of_volume, HaveAllLanded}
 use Rattle.lvm_keeps.proofs.Lists.{count_cons}
 use Rattle.lvm_session.specs.State.{Core, State}
 use Rattle.lvm_group_lines.specs.passed.Quiesce.{IsBehindEach}

@@ -8,7 +8,7 @@ use Rattle.lvm_vol.specs.Order.{Ordered}
 use Rattle.lvm_steps.specs.Requests.{at}
 use Rattle.lvm_session.specs.State.{Core, State, state, state_of}
 use Rattle.lvm_session.specs.Sound.{IsSound}
-use Rattle.lvm_group_lines.specs.passed.Names.{IsSettled as IsSettledCore}
+use Rattle.lvm_group_lines.specs.passed.Core.{IsSettled as IsSettledCore}
 use Rattle.lvm_group_lines.specs.passed.Tie.{RunsOn}
 use Rattle.lvm_posts.specs.declared.posts.Post.{Post}
 use Rattle.lvm_group_lines.specs.passed.TieCommands.{StandsAfter}

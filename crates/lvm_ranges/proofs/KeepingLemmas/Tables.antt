@@ -26,7 +26,8 @@ use Rattle.lvm_session.specs.Sound.{IsAsked, IsSound, outcome_in}
 use Rattle.lvm_session.specs.State.{Core, State}
 use Rattle.lvm_session.specs.Turns.{Darkens, FinishMakes, Finishes, GoesOff, Makes, Moves, NoStart, OnMakes, TurnMakes, WasDark, WasOff, WasOn}
 use Rattle.lvm_keeps.proofs.SoundLemmas.Telling.{asked_still}
-use Rattle.lvm_driver.proofs.passed.Names.{ends_history, turn_leaves_table}
+use Rattle.lvm_driver.proofs.passed.Going.{ends_history}
+use Rattle.lvm_driver.proofs.passed.KeepsEvents.{turn_leaves_table}
 use Rattle.lvm_ranges.specs.Keeping.{KeepsTable, TurnKeepsTable}
 use Rattle.lvm_ranges.proofs.AsksLemmas.{done_writes}
 use Rattle.lvm_ranges.proofs.KeepingLemmas.Growing.{Grows, SameTakings, answered_on, grows_ended, grows_none, grows_quiet, grows_same, grows_then, keeps_both, keeps_none, keeps_requests, outcome_last, takings_ended, takings_push, takings_same}

@@ -1,5 +1,5 @@
 -- The copy that is open is brought up until it doesn't run.
-use Rattle.lvm_ranges.proofs.passed.Names.{path_frames, goes_any}
+use Rattle.lvm_ranges.proofs.passed.Going.{path_frames, goes_any}
 use Rattle.std.proofs.Common.{◌||◌, ◌≡◌, inl, inr, ◌-◌, ℕ, Bool, true, false, Option, Some, None, if◌then◌else◌, refl, sym, ap, subst, ◌∙◌}
 use Rattle.std.specs.Prelude.{IfSome}
 use Rattle.std.specs.Option.{option_map_or}
@@ -15,7 +15,9 @@ use Rattle.lvm_session.specs.Judging.{is_missing, is_move_done}
 use Rattle.lvm_disk.specs.Device.{Device}
 use Rattle.lvm_session.specs.State.{Core, State, state}
 use Rattle.lvm_session.specs.Sound.{IsSound}
-use Rattle.lvm_ranges.specs.passed.Names.{IsCopyCaused, NoTurn, is_marked, RunsOn}
+use Rattle.lvm_ranges.specs.passed.Driver.{IsCopyCaused, NoTurn}
+use Rattle.lvm_ranges.specs.passed.KeepsEvents.{is_marked}
+use Rattle.lvm_ranges.specs.passed.Going.{RunsOn}
 use Rattle.lvm_session.specs.declared.answers.Turned.TheVariants as told
 use Rattle.lvm_ranges.specs.declared.fault.SyncFault.{SyncFault}
 use Rattle.lvm_ranges.specs.Keeping.{KeepsTable}

@@ -1,5 +1,5 @@
 -- A copy is judged: turns are made until it is settled, and it is opened where it is stale.
-use Rattle.lvm_ranges.proofs.passed.Names.{path_shape}
+use Rattle.lvm_ranges.proofs.passed.Going.{path_shape}
 use Rattle.std.proofs.Common.{◌≡◌, inl, inr, ◌<◌, ◌-◌, ◌||◌, ℕ, suc, true, false, List, [], ◌∷◌, None, Some, Result, Ok, map, length, refl, sym, ap, subst, ◌∙◌}
 use Rattle.std.specs.List.{list_any}
 use Rattle.lvm_num.specs.declared.descriptor.Descriptor.{Descriptor}
@@ -17,7 +17,9 @@ use Rattle.lvm_session.specs.Ends.{with_step}
 use Rattle.lvm_session.specs.Judging.{copies_in, is_missing, is_stale}
 use Rattle.lvm_session.specs.Sound.{IsSound}
 use Rattle.lvm_session.specs.State.{Core, State, state}
-use Rattle.lvm_ranges.specs.passed.Names.{counts_seen, NoTurn, LeavesSession}
+use Rattle.lvm_ranges.specs.passed.Calls.{counts_seen}
+use Rattle.lvm_ranges.specs.passed.Driver.{NoTurn}
+use Rattle.lvm_ranges.specs.passed.Going.{LeavesSession}
 use Rattle.lvm_ranges.specs.Keeping.{KeepsTable}
 use Rattle.lvm_ranges.specs.declared.copies.Opening.{Opening}
 use Rattle.lvm_ranges.specs.declared.fault.SyncFault.{SyncFault}

@@ -10,7 +10,7 @@ use Rattle.lvm_session.specs.declared.bringing.OpenCopy.{OpenCopy}
 use Rattle.lvm_session.specs.Bringing.{step_place}
 use Rattle.lvm_session.specs.Calls.{Opens, copy_at, faults_of, opened as opened_copy}
 use Rattle.lvm_session.specs.State.{Core, State}
-use Rattle.lvm_ranges.specs.passed.Names.{is_marked}
+use Rattle.lvm_ranges.specs.passed.KeepsEvents.{is_marked}
 use Rattle.lvm_ranges.specs.Passing.{Copy, HasEndedFor, IsMadeFresh, IsOpened}
 
 -- the copy as it is opened

@@ -26,8 +26,8 @@ use Rattle.lvm_session.specs.Sound.{IsCopy, IsSound}
 use Rattle.lvm_session.specs.State.{Core, State}
 use Rattle.lvm_session.specs.Turns.{FinishMakes, Finishes, Makes, Moves, NoStart, OnMakes, TurnMakes, WasDark, WasOff, WasOn}
 use Rattle.lvm_keeps.proofs.StateLemmas.{state_brought}
-use Rattle.lvm_ranges.specs.passed.Names.{is_marked}
-use Rattle.lvm_ranges.proofs.passed.Names.{reviewed}
+use Rattle.lvm_ranges.specs.passed.KeepsEvents.{is_marked}
+use Rattle.lvm_ranges.proofs.passed.KeepsEvents.{reviewed}
 use Rattle.lvm_ranges.specs.Passing.{IsSameCopy, Runs}
 
 -- no transfer of it is out, and it is stale by nothing

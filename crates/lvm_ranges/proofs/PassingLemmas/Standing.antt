@@ -30,8 +30,8 @@ use Rattle.lvm_session.specs.Sound.{IsGoing, IsOn, IsSound, count_if, has_number
 use Rattle.lvm_keeps.proofs.Lists.{count_cons}
 use Rattle.lvm_keeps.proofs.VotesLemmas.{enough_more, more_votes}
 use Rattle.lvm_driver.proofs.EndedLemmas.{has_ended, none_out, stands}
-use Rattle.lvm_ranges.proofs.passed.Names.{none_waits_at_all}
-use Rattle.lvm_ranges.specs.passed.Names.{IsDrained}
+use Rattle.lvm_ranges.proofs.passed.KeepsEvents.{none_waits_at_all}
+use Rattle.lvm_ranges.specs.passed.Driver.{IsDrained}
 use Rattle.lvm_ranges.specs.Passing.{Runs}
 
 -- ---- tests

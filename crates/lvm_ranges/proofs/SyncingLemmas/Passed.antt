@@ -9,7 +9,7 @@ use Rattle.lvm_session.specs.declared.answers.CopyState.TheVariants as copy
 use Rattle.lvm_session.specs.Calls.{copy_at}
 use Rattle.lvm_session.specs.Judging.{copies_in}
 use Rattle.lvm_session.specs.State.{Core, State}
-use Rattle.lvm_ranges.proofs.passed.Names.{of_place}
+use Rattle.lvm_ranges.proofs.passed.KeepsEvents.{of_place}
 use Rattle.lvm_ranges.specs.declared.copies.Passed.{Passed}
 use Rattle.lvm_ranges.specs.declared.fault.SyncFault.{SyncFault}
 use Rattle.lvm_ranges.specs.declared.tally.Tally.{Tally}

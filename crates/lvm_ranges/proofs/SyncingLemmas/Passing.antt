@@ -1,5 +1,5 @@
 -- Copies that are passed one after the other.
-use Rattle.lvm_ranges.proofs.passed.Names.{path_shape}
+use Rattle.lvm_ranges.proofs.passed.Going.{path_shape}
 use Rattle.std.proofs.Common.{◌≡◌, ◌⊎◌, inl, inr, ◌+◌, ◌<◌, ◌++◌, ℕ, zero, suc, List, [], ◌∷◌, None, sym, ap, ◌∙◌, subst, append_assoc, append-nil, arith}
 use Rattle.std.proofs.Math.Nat.{eq-or-lt_of_le}
 use Rattle.lvm_num.specs.declared.descriptor.Descriptor.{Descriptor}

@@ -27,9 +27,12 @@ use Rattle.lvm_session.specs.Requests.{IsLanded}
 use Rattle.lvm_session.specs.Judging.{is_missing, is_destination, is_running, is_settled, is_stale, is_waiting, is_wanted_stale}
 use Rattle.lvm_session.specs.Sound.{IsSound}
 use Rattle.lvm_session.specs.State.{Core, State, state}
-use Rattle.lvm_ranges.specs.passed.Names.{counts_seen, MarksFor, has_failed_on, is_lasting, is_marked, is_open_at, IsTurn}
+use Rattle.lvm_ranges.specs.passed.Calls.{counts_seen}
+use Rattle.lvm_ranges.specs.passed.KeepsEvents.{MarksFor, has_failed_on, is_lasting, is_marked, is_open_at}
+use Rattle.lvm_ranges.specs.passed.Driver.{IsTurn}
 use Rattle.lvm_keeps.proofs.KeepsLemmas.Close.{close_keeps}
-use Rattle.lvm_ranges.proofs.passed.Names.{own_pp, pp_same, seen_open_keeps, turn_keeps, turn_counts, turn_marks, stays_unstuck, turn_goes}
+use Rattle.lvm_ranges.proofs.passed.KeepsEvents.{own_pp, pp_same, seen_open_keeps, turn_keeps, turn_counts, turn_marks}
+use Rattle.lvm_ranges.proofs.passed.Going.{stays_unstuck, turn_goes}
 use Rattle.lvm_ranges.specs.declared.copies.Passed.TheVariants as passed
 use Rattle.lvm_ranges.specs.declared.fault.SyncFault.{SyncFault}
 use Rattle.lvm_ranges.specs.declared.tally.Tally.{Tally}

@@ -1,2 +1,2 @@
 -- Passed on from `lvm_going`.
-pub use Rattle.lvm_driver.specs.passed.Names.{LeavesSession, RunsOn}
+pub use Rattle.lvm_driver.specs.passed.Going.{LeavesSession, RunsOn}

@@ -23,8 +23,8 @@ use Rattle.lvm_kept.specs.Committed.{IsWithinDisks}
 use Rattle.lvm_kept.specs.Changes.{Unchanged, Excused, BlocksChange}
 use Rattle.lvm_kept.proofs.ChangesLemmas.Changing.{data_keeps}
 use Rattle.lvm_kept.proofs.CommittedLemmas.Finding.{finding_reads}
-use Rattle.lvm_even.specs.passed.Names.{ShowsCommitted}
-use Rattle.lvm_even.proofs.passed.Names.{shows_group, only_found, status_read}
+use Rattle.lvm_even.specs.passed.Commit.{ShowsCommitted}
+use Rattle.lvm_even.proofs.passed.Commit.{shows_group, only_found, status_read}
 use Rattle.lvm_steps.proofs.GroupLemmas.Members.{one_group, parts_of, member_of_parts}
 use Rattle.lvm_even.specs.Members.{members_showing}
 use Rattle.lvm_even.proofs.Lists.{by_id, left_of, right_of, both_of, of_passing}

@@ -25,8 +25,8 @@ use Rattle.lvm_kept.specs.Committed.{IsWithinDisks}
 use Rattle.lvm_kept.specs.Changes.{StayExcused}
 use Rattle.lvm_kept.proofs.ChangesLemmas.Changing.{notes_keep}
 use Rattle.lvm_kept.proofs.CommittedLemmas.Finding.{finding_reads}
-use Rattle.lvm_even.specs.passed.Names.{ShowsCommitted}
-use Rattle.lvm_even.proofs.passed.Names.{shows_group, only_found, status_read}
+use Rattle.lvm_even.specs.passed.Commit.{ShowsCommitted}
+use Rattle.lvm_even.proofs.passed.Commit.{shows_group, only_found, status_read}
 use Rattle.lvm_steps.proofs.GroupLemmas.Members.{one_group, parts_of, member_of_parts}
 use Rattle.lvm_even.specs.Members.{members_showing}
 use Rattle.lvm_even.proofs.Lists.{by_id, left_of, right_of, both_of, not_so, of_passing}

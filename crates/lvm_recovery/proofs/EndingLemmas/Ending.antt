@@ -20,11 +20,12 @@ use Rattle.lvm_kept.specs.Contents.{Contents, contents_of}
 use Rattle.lvm_kept.specs.Group.{IsOneOf, is_named, is_stale_by, fresh_on}
 use Rattle.lvm_kept.proofs.TornLemmas.Standing.{note_shows}
 use Rattle.lvm_write.proofs.WrittenLemmas.Writing.{changes_more}
-use Rattle.lvm_recover.proofs.passed.Names.{of_map, of_rows, mib_positive}
+use Rattle.lvm_recover.proofs.passed.Commit.{of_map, of_rows}
+use Rattle.lvm_recover.proofs.passed.Even.{mib_positive}
 use Rattle.lvm_num.specs.Status.{calls_dirty}
 use Rattle.lvm_write.specs.Next.{has_passive}
 use Rattle.lvm_recover.specs.Recopied.{IsToEqual, IsFromFirst}
-use Rattle.lvm_tidying.proofs.passed.Names.{split, join}
+use Rattle.lvm_tidying.proofs.passed.Steps.{split, join}
 use Rattle.lvm_tidying.proofs.RecoveredLemmas.{one_passive}
 use Rattle.lvm_recover.proofs.KeepingLemmas.Copying.{left_passes}
 use Rattle.lvm_recover.proofs.KeepingLemmas.Images.{images_are_recopied}

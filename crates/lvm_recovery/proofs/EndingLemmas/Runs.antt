@@ -17,7 +17,7 @@ use Rattle.lvm_disk.specs.Device.{Range}
 use Rattle.lvm_kept.specs.Contents.{Contents}
 use Rattle.lvm_kept.specs.Group.{is_voter, status_among, is_stale_by, is_dirty_by, fresh_on, IsOneOf}
 use Rattle.lvm_kept.specs.Recovered.{IsMadeEqual, IsCopyRange}
-use Rattle.lvm_recover.proofs.passed.Names.{mib_positive}
+use Rattle.lvm_recover.proofs.passed.Even.{mib_positive}
 use Rattle.lvm_recover.specs.Recopied.{IsToEqual}
 use Rattle.lvm_recover.proofs.KeepingLemmas.Copying.{left_passes}
 use Rattle.lvm_recover.proofs.BeginningLemmas.{is_at}

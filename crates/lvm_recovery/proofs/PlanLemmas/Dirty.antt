@@ -19,7 +19,7 @@ use Rattle.lvm_num.proofs.AmongLemmas.{one_of_left, one_of_right, one_of_either}
 use Rattle.lvm_kept.specs.Contents.{Contents}
 use Rattle.lvm_kept.specs.Group.{IsOneOf, fresh_on}
 use Rattle.lvm_map.specs.Places.{place_on}
-use Rattle.lvm_recover.proofs.passed.Names.{mib_positive}
+use Rattle.lvm_recover.proofs.passed.Even.{mib_positive}
 use Rattle.lvm_recover.specs.Recopied.{IsToEqual}
 use Rattle.lvm_recovery.specs.declared.copying.Recopy.{Recopy}
 use Rattle.lvm_recovery.specs.Planned.{IsPlannedCopy}

@@ -20,7 +20,7 @@ use Rattle.lvm_quorum.specs.declared.row.Survey.{Survey}
 use Rattle.lvm_quorum.specs.declared.row.SurveyRow.{SurveyRow}
 use Rattle.lvm_quorum.specs.Rows.{AreRows}
 use Rattle.lvm_quorum.specs.Surveyed.{surveyed}
-use Rattle.lvm_recover.proofs.passed.Names.{contains}
+use Rattle.lvm_recover.proofs.passed.Commit.{contains}
 use Rattle.lvm_recovery.specs.declared.plan.TrackGroup.{TrackGroup}
 use Rattle.lvm_recovery.specs.Plan.{group_of, AreNamed}
 use Rattle.lvm_recovery.proofs.CopyingLemmas.AllCopied.{at_index}

@@ -18,7 +18,7 @@ use Rattle.lvm_kept.specs.Group.{IsOneOf, fresh_on, is_named}
 use Rattle.lvm_kept.proofs.ChangesLemmas.Entries.{volume_is_row}
 use Rattle.lvm_num.specs.Modes.{is_active}
 use Rattle.lvm_num.proofs.AmongLemmas.{one_of_left, one_of_right, one_of_either}
-use Rattle.lvm_recover.proofs.passed.Names.{row_is_volume}
+use Rattle.lvm_recover.proofs.passed.Even.{row_is_volume}
 use Rattle.lvm_recover.specs.Recopied.{IsToEqual}
 use Rattle.lvm_recovery.proofs.PlannedLemmas.{group_of_start}
 use Rattle.lvm_recovery.specs.declared.copying.Recopy.{Recopy}

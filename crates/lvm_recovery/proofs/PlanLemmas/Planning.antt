@@ -11,7 +11,7 @@ use Rattle.lvm_num.specs.Disks.{Disks}
 use Rattle.lvm_num.specs.Descriptor.{IsValid, IsLaidOut, IsMember, IsPartitionOf, volume_of, partitions_used}
 use Rattle.lvm_num.proofs.AmongLemmas.{all_one, one_at}
 use Rattle.lvm_kept.proofs.ChangesLemmas.Entries.{volume_is_row}
-use Rattle.lvm_recover.proofs.passed.Names.{of_rows}
+use Rattle.lvm_recover.proofs.passed.Commit.{of_rows}
 use Rattle.lvm_recovery.specs.declared.copying.Recopy.{Recopy}
 use Rattle.lvm_recovery.specs.declared.plan.TrackGroup.{TrackGroup}
 use Rattle.lvm_recovery.specs.Plan.{copies_of_group, copies_of_found, copies_named}

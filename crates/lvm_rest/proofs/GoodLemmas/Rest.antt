@@ -19,7 +19,7 @@ use Rattle.lvm_kept.specs.Kept.{Kept}
 use Rattle.lvm_kept.specs.Committed.{IsWithinDisks}
 use Rattle.lvm_commit.specs.Committed.{ShowsCommitted}
 use Rattle.lvm_commit.proofs.LawsLemmas.Found.{shows_group}
-use Rattle.lvm_commit.proofs.passed.Names.{member_of_parts}
+use Rattle.lvm_commit.proofs.passed.Steps.{member_of_parts}
 use Rattle.lvm_invariant.specs.State.{Marks, ModelState, Live, stale_in, told}
 use Rattle.lvm_num.specs.Modes.{is_active, is_passive}
 use Rattle.lvm_num.proofs.Booleans.{clash_gives}

@@ -11,7 +11,7 @@ use Rattle.lvm_num.specs.Status.{calls_stale}
 use Rattle.lvm_num.proofs.DisksLemmas.{has-zero}
 use Rattle.lvm_num.proofs.Booleans.{same_turned, not_so, not_either, twice_fails}
 use Rattle.lvm_kept.specs.Examples.{member, mirror}
-use Rattle.lvm_kept.specs.passed.Names.{Begun}
+use Rattle.lvm_kept.specs.passed.Vol.{Begun}
 use Rattle.lvm_path.specs.passed.SchedWritesTargetState as stage
 use Rattle.lvm_path.specs.declared.target.Target.{Target}
 use Rattle.lvm_session.specs.declared.flown.Owner.TheVariants as owner

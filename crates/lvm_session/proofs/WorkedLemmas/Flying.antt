@@ -15,7 +15,7 @@ use Rattle.lvm_num.specs.Status.{calls_stale}
 use Rattle.lvm_num.proofs.DisksLemmas.{has-zero}
 use Rattle.lvm_num.proofs.Booleans.{same_turned, not_so, not_either, or_left, twice_fails, not_first}
 use Rattle.lvm_kept.specs.Examples.{mirror}
-use Rattle.lvm_kept.specs.passed.Names.{Begun}
+use Rattle.lvm_kept.specs.passed.Vol.{Begun}
 use Rattle.lvm_mwc.specs.declared.entries.CacheEntry.{CacheEntry}
 use Rattle.lvm_mwc.specs.declared.notes.DiskNotes.{DiskNotes}
 use Rattle.lvm_mwc.specs.Cache.{has_disk, flight_on, no_notes}

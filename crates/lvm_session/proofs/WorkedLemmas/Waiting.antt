@@ -9,7 +9,7 @@ use Rattle.lvm_num.specs.declared.descriptor.Mode.TheVariants as mode
 use Rattle.lvm_num.specs.Status.{calls_stale}
 use Rattle.lvm_num.proofs.Booleans.{not_so, not_either, twice_fails}
 use Rattle.lvm_kept.specs.Examples.{mirror}
-use Rattle.lvm_kept.specs.passed.Names.{Begun}
+use Rattle.lvm_kept.specs.passed.Vol.{Begun}
 use Rattle.lvm_path.specs.passed.SchedWritesTargetState as stage
 use Rattle.lvm_path.specs.declared.target.Target.{Target}
 use Rattle.lvm_path.specs.declared.request.Phase.TheVariants as phase

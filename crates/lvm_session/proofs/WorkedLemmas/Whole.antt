@@ -13,7 +13,7 @@ use Rattle.lvm_num.specs.Status.{calls_stale}
 use Rattle.lvm_num.proofs.DisksLemmas.{has-zero}
 use Rattle.lvm_num.proofs.Booleans.{not_so, not_either, twice_fails, thrice_holds}
 use Rattle.lvm_kept.specs.Examples.{mirror}
-use Rattle.lvm_kept.specs.passed.Names.{Begun, Ordered}
+use Rattle.lvm_kept.specs.passed.Vol.{Begun, Ordered}
 use Rattle.lvm_mwc.specs.Entries.{AreEntries}
 use Rattle.lvm_mwc.specs.Cache.{has_disk}
 use Rattle.lvm_path.specs.declared.request.Phase.TheVariants as phase

@@ -29,7 +29,8 @@ use Rattle.lvm_kept.proofs.CommittedLemmas.Alike.{one_shown_is_one}
 use Rattle.lvm_kept.specs.Kept.{Kept}
 use Rattle.lvm_kept.specs.Moments.{Calm}
 use Rattle.lvm_steps.specs.Behind.{StampsBefore}
-use Rattle.lvm_core.specs.passed.Names.{SparesNewest, ShowsCommitted, HoldsCommitted}
+use Rattle.lvm_core.specs.passed.Write.{SparesNewest}
+use Rattle.lvm_core.specs.passed.Commit.{ShowsCommitted, HoldsCommitted}
 use Rattle.lvm_mwc.specs.Cache.{Cached, has_disk, no_notes}
 use Rattle.lvm_mwc.specs.declared.notes.DiskNotes.{DiskNotes}
 use Rattle.lvm_session.specs.State.{Core, state, is_there}

@@ -4,7 +4,7 @@ use Rattle.std.specs.Prelude.{slice_set}
 use Rattle.lvm_vol.specs.Facts.{Made}
 use Rattle.lvm_vol.specs.Log.{Log, with_fact}
 use Rattle.lvm_session.specs.State.{State}
-use Rattle.lvm_volume_plan.specs.passed.Names.{IsSettled, Leaves}
+use Rattle.lvm_volume_plan.specs.passed.Core.{IsSettled, Leaves}
 use Rattle.lvm_volume_plan.specs.declared.fault.GroupFault.{GroupFault}
 use Rattle.lvm_volume_plan.specs.declared.fault.GroupFault.TheVariants as fault
 use Rattle.lvm_volume_plan.specs.declared.split.SplitPlan.{SplitPlan}

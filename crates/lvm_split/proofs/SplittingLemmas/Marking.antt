@@ -23,7 +23,7 @@ use Rattle.lvm_session.specs.State.{Core, State, is_there}
 use Rattle.lvm_even.specs.Even.{IsEven}
 use Rattle.lvm_write.proofs.WrittenLemmas.Writing.{if_told}
 use Rattle.lvm_volumes.proofs.EvenLemmas.Even.{kept_even}
-use Rattle.lvm_volume_plan.specs.passed.Names.{Always, CommitFault, HasSpareNumbers, HasStated, IsSettled, Leaves, MarkEnds, NoDescriptor, NoPartition}
+use Rattle.lvm_volume_plan.specs.passed.Core.{Always, CommitFault, HasSpareNumbers, HasStated, IsSettled, Leaves, MarkEnds, NoDescriptor, NoPartition}
 use Rattle.lvm_volume_plan.specs.passed.CoreFaultCommitFault as commit
 use Rattle.lvm_volume_plan.specs.declared.fault.GroupFault.{GroupFault}
 use Rattle.lvm_volume_plan.specs.declared.fault.GroupFault.TheVariants as fault

@@ -30,7 +30,7 @@ use Rattle.lvm_session.specs.Judging.{copies_in}
 use Rattle.lvm_session.specs.State.{Core, State, is_there, moment_of}
 use Rattle.lvm_even.specs.Even.{IsEven}
 use Rattle.lvm_write.proofs.WrittenLemmas.Writing.{told_at}
-use Rattle.lvm_volume_plan.specs.passed.Names.{Always, CommitEnds, CommitFault, HasCommitted, HasStated, IsHeldSince, IsSettled, Leaves, NoPartition, committing}
+use Rattle.lvm_volume_plan.specs.passed.Core.{Always, CommitEnds, CommitFault, HasCommitted, HasStated, IsHeldSince, IsSettled, Leaves, NoPartition, committing}
 use Rattle.lvm_volume_plan.specs.passed.CoreFaultCommitFault as commit
 use Rattle.lvm_volume_plan.specs.Faults.{IfOn, command_answer}
 use Rattle.lvm_volume_plan.specs.declared.split.SplitPlan.{SplitPlan}

@@ -27,7 +27,7 @@ use Rattle.lvm_even.specs.Even.{IsEven}
 use Rattle.lvm_core.specs.Committing.{LetsCommitAmong}
 use Rattle.lvm_session.specs.State.{Core, State, is_there, moment_of}
 use Rattle.lvm_write.proofs.WrittenLemmas.Writing.{if_told, told_at}
-use Rattle.lvm_volume_plan.specs.passed.Names.{IsHeld, IsSettled}
+use Rattle.lvm_volume_plan.specs.passed.Core.{IsHeld, IsSettled}
 use Rattle.lvm_volume_plan.specs.declared.split.SplitPlan.{SplitPlan}
 use Rattle.lvm_volume_plan.specs.Split.{MayServeBoth, kept_row, split_row}
 use Rattle.lvm_volume_plan.specs.PlannedSplit.{IsPlannedSplit}

@@ -2,7 +2,7 @@
 use Rattle.std.proofs.Common.{◌≡◌, inl, inr, ℕ, ◌+◌, ◌-◌, ◌^◌, ◌<◌, ◌≤◌, List, map, [], ◌∷◌, subst, arith}
 use Rattle.std.proofs.lemmas.Bool.{cases_lt}
 use Rattle.lvm_kept.specs.passed.VolEntryVol.{Disk}
-use Rattle.lvm_kept.specs.passed.Names.{On, Removed, Cut, IsLater}
+use Rattle.lvm_kept.specs.passed.Vol.{On, Removed, Cut, IsLater}
 use Rattle.lvm_steps.specs.Behind.{StampsAreEarlier}
 use Rattle.lvm_steps.specs.Laws.{LaterStaysAhead, RisenIsAhead, AllIsBehindNext, LaterIsLaterToo, LaterJoins, OnIsEarlier, RemovedStaysLater, JoinedIsLater}
 use Rattle.lvm_steps.proofs.LawsLemmas.Stamps.{later_is_ahead_too}

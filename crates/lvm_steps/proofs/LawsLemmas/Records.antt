@@ -14,8 +14,9 @@ use Rattle.lvm_num.specs.Torn.{AreSectors, stamp_of}
 use Rattle.lvm_num.proofs.TornLemmas.Fresh.{before_is_older}
 use Rattle.lvm_num.proofs.RecordLemmas.Records.{below64, bytes-drop, bytes-take}
 use Rattle.lvm_num.proofs.RecordLemmas.Newest.{of_two}
-use Rattle.lvm_kept.specs.passed.Names.{held, newest_on, slot_of, Media, Image, AreSectors as AreWhole, image_of, IsWholeImage}
-use Rattle.lvm_kept.proofs.passed.Names.{held-record}
+use Rattle.lvm_kept.specs.passed.Rec.{held, newest_on, slot_of}
+use Rattle.lvm_kept.specs.passed.Disk.{Media, Image, AreSectors as AreWhole, image_of, IsWholeImage}
+use Rattle.lvm_kept.proofs.passed.Rec.{held-record}
 use Rattle.lvm_kept.specs.Changes.{IsBlank}
 use Rattle.lvm_kept.specs.Contents.{has_records, newest_at, descriptor_on, status_on}
 use Rattle.lvm_steps.specs.Behind.{StampsBefore, beginning_at}

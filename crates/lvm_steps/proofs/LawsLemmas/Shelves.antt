@@ -3,7 +3,7 @@ use Rattle.std.proofs.Common.{◌≡◌, inl, inr, ⊎_elim, ℕ, ◌<◌, List,
 use Rattle.std.specs.Prelude.{IfSome, IsSomeAnd, slice_index_or}
 use Rattle.lvm_num.specs.Buffer.{Sector}
 use Rattle.lvm_num.specs.Geometry.{data_start}
-use Rattle.lvm_kept.specs.passed.Names.{Device, Media, Image, Flight, SameDisks, image_of, written, IsInFlight, IsCrashImage, LeavesNoMore, BothTold}
+use Rattle.lvm_kept.specs.passed.Disk.{Device, Media, Image, Flight, SameDisks, image_of, written, IsInFlight, IsCrashImage, LeavesNoMore, BothTold}
 use Rattle.lvm_kept.specs.Plans.{ChangesBy}
 use Rattle.lvm_kept.specs.Raw.{OnlyAdds}
 use Rattle.lvm_steps.specs.Behind.{StampsBefore, beginning_at, StampsAreEarlier}

@@ -5,7 +5,7 @@ use Rattle.std.proofs.lemmas.Bool.Decides.{nat_tests}
 use Rattle.lvm_num.specs.declared.record.Stamp.{Stamp}
 use Rattle.lvm_num.specs.Record.{slot_start, stamp_lt}
 use Rattle.lvm_num.specs.Torn.{stamp_of}
-use Rattle.lvm_kept.specs.passed.Names.{Media, image_of}
+use Rattle.lvm_kept.specs.passed.Disk.{Media, image_of}
 use Rattle.lvm_steps.specs.Behind.{StampsBefore, beginning_at}
 use Rattle.lvm_steps.specs.Laws.{IsNoLater, LaterIsAfterToo, LaterIsAheadToo, SessionIsFromMoment, SessionIsBeforeLater, BehindIsBefore, BeforeIsBehind}
 

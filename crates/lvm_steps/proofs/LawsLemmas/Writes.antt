@@ -9,7 +9,7 @@ use Rattle.lvm_num.specs.Record.{kind_magic, slot_start, slot_size, frame, stamp
 use Rattle.lvm_num.specs.Torn.{stamp_of}
 use Rattle.lvm_num.proofs.TornLemmas.Torn.{frame-carries}
 use Rattle.lvm_num.proofs.TornLemmas.Fresh.{carried}
-use Rattle.lvm_kept.specs.passed.Names.{Image}
+use Rattle.lvm_kept.specs.passed.Disk.{Image}
 use Rattle.lvm_kept.specs.Contents.{has_records}
 use Rattle.lvm_kept.specs.Plans.{Plan, ChangesBy}
 use Rattle.lvm_kept.specs.Torn.{IsOfRecord, IsOutsideSlots}

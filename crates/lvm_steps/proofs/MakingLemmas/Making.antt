@@ -5,8 +5,8 @@ use Rattle.lvm_num.specs.Record.{Stamped}
 use Rattle.lvm_vol.specs.declared.entry.Vol.TheVariants.{Disk}
 use Rattle.lvm_vol.specs.Facts.{Fact, Removed}
 use Rattle.lvm_vol.specs.Legal.{IsLater}
-use Rattle.lvm_kept.specs.passed.Names.{Media, Image, Flight, Device, image_of, IsInFlight, IsCrashImage, MayLeave, DeviceStep, Path}
-use Rattle.lvm_kept.proofs.passed.Names.{map-path, last-path}
+use Rattle.lvm_kept.specs.passed.Disk.{Media, Image, Flight, Device, image_of, IsInFlight, IsCrashImage, MayLeave, DeviceStep, Path}
+use Rattle.lvm_kept.proofs.passed.Disk.{map-path, last-path}
 use Rattle.lvm_kept.specs.Contents.{Contents, descriptor_on, contents_of}
 use Rattle.lvm_kept.specs.Places.{SameRecords}
 use Rattle.lvm_kept.specs.Kept.{Kept}

@@ -1,8 +1,8 @@
 -- Spans of moments, grown by one entry or by steps of the shelf, and one after the other.
 use Rattle.std.proofs.Common.{map, ◌≤◌, ◌≡◌, ◌∷◌, ◌++◌, [], ◌+◌, ℕ, List, count_by, cond, refl, sym, ◌∙◌, ap, subst, append_assoc, arith}
 use Rattle.std.proofs.lemmas.List.Sums.{sum_by-append}
-use Rattle.lvm_kept.specs.passed.Names.{Device, LeavesNoMore, DeviceStep, Path, Here, Then}
-use Rattle.lvm_kept.proofs.passed.Names.{append-path, lift-path, last-path, map-path}
+use Rattle.lvm_kept.specs.passed.Disk.{Device, LeavesNoMore, DeviceStep, Path, Here, Then}
+use Rattle.lvm_kept.proofs.passed.Disk.{append-path, lift-path, last-path, map-path}
 use Rattle.lvm_vol.specs.declared.entry.Vol.TheVariants.{Disk}
 use Rattle.lvm_vol.specs.Facts.{Fact, Removed, Cut, On}
 use Rattle.lvm_vol.specs.Legal.{begins_in, Legal, IsLater}

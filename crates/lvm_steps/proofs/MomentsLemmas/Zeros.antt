@@ -1,6 +1,6 @@
 -- Still disks of zeros.
 use Rattle.std.proofs.Common.{◌≡◌, ◌<◌, ⊎_elim, ℕ, List, [], Option, Some, IsSome, refl, sym, ◌∙◌, subst}
-use Rattle.lvm_kept.specs.passed.Names.{Media, Image, Flight, Device, image_of, IsCrashImage, MayLeave}
+use Rattle.lvm_kept.specs.passed.Disk.{Media, Image, Flight, Device, image_of, IsCrashImage, MayLeave}
 use Rattle.lvm_kept.specs.Changes.{IsBlank}
 use Rattle.lvm_kept.proofs.ChangesLemmas.Blank.{blank_is_kept, no_descriptor}
 use Rattle.lvm_steps.specs.Moments.{BlankIsEarlier}

@@ -12,7 +12,7 @@ use Rattle.lvm_num.specs.Disks.{Disks}
 use Rattle.lvm_num.specs.Geometry.{data_start, sector_of}
 use Rattle.lvm_num.specs.Record.{Stamped}
 use Rattle.lvm_num.specs.Votes.{all_disks}
-use Rattle.lvm_kept.specs.passed.Names.{Image, Flight, written, DiffersBy}
+use Rattle.lvm_kept.specs.passed.Disk.{Image, Flight, written, DiffersBy}
 use Rattle.lvm_vol.specs.declared.entry.Vol.TheVariants.{Disk}
 use Rattle.lvm_vol.specs.Facts.{Fact, Cut}
 use Rattle.lvm_vol.specs.May.{known, May}

@@ -5,7 +5,7 @@ use Rattle.lvm_num.specs.Buffer.{Buffer, Sector}
 use Rattle.lvm_num.specs.Geometry.{data_start}
 use Rattle.lvm_num.specs.Record.{Stamped}
 use Rattle.lvm_num.specs.declared.descriptor.Descriptor.{Descriptor}
-use Rattle.lvm_kept.specs.passed.Names.{Media, Image, Flight, Device, image_of, MayLeave, BothTold, Puts, ReadsRange, IsRange, LeavesNoMore, DiffersBy, DeviceStep, Path}
+use Rattle.lvm_kept.specs.passed.Disk.{Media, Image, Flight, Device, image_of, MayLeave, BothTold, Puts, ReadsRange, IsRange, LeavesNoMore, DiffersBy, DeviceStep, Path}
 use Rattle.lvm_vol.specs.declared.entry.Vol.TheVariants.{Disk}
 use Rattle.lvm_vol.specs.declared.entry.Outcome.{Outcome}
 use Rattle.lvm_vol.specs.declared.entry.Outcome.TheVariants as outcome

@@ -3,7 +3,7 @@ use Rattle.std.proofs.Common.{◌≡◌, ◌⊎◌, inl, ⊎_elim, ◌+◌, ◌<
 use Rattle.std.specs.List.{list_any}
 use Rattle.lvm_num.specs.Buffer.{Sector}
 use Rattle.lvm_num.specs.Geometry.{data_start}
-use Rattle.lvm_kept.specs.passed.Names.{Media, Image, Flight, Device, IsCrashImage, image_of, MayLeave, written, BothTold, Puts, PutsSome, LeavesNoMore, DiffersBy, DeviceStep, Path}
+use Rattle.lvm_kept.specs.passed.Disk.{Media, Image, Flight, Device, IsCrashImage, image_of, MayLeave, written, BothTold, Puts, PutsSome, LeavesNoMore, DiffersBy, DeviceStep, Path}
 use Rattle.lvm_vol.specs.declared.entry.Vol.TheVariants.{Disk}
 use Rattle.lvm_vol.specs.declared.entry.Outcome.{Outcome}
 use Rattle.lvm_vol.specs.declared.entry.Outcome.TheVariants as outcome

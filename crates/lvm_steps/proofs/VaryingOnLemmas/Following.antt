@@ -11,8 +11,8 @@ use Rattle.lvm_num.specs.Votes.{CanRead}
 use Rattle.lvm_num.specs.Record.{Stamped, stamp_lt}
 use Rattle.lvm_num.proofs.RecordLemmas.Newest.{is_one, is_last}
 use Rattle.lvm_num.proofs.VotesLemmas.{read_meets_read}
-use Rattle.lvm_kept.specs.passed.Names.{Image, image_of}
-use Rattle.lvm_kept.proofs.passed.Names.{map-path}
+use Rattle.lvm_kept.specs.passed.Disk.{Image, image_of}
+use Rattle.lvm_kept.proofs.passed.Disk.{map-path}
 use Rattle.lvm_kept.specs.Contents.{Contents, contents_of}
 use Rattle.lvm_kept.specs.Group.{passes, is_of, has_room, descriptor_among, is_voter, Finds, members_in, ReadsBy}
 use Rattle.lvm_kept.specs.Committed.{IsWithinDisks}

@@ -13,7 +13,7 @@ use Rattle.lvm_kept.specs.Contents.{Contents}
 use Rattle.lvm_kept.specs.Moments.{Moment, StaysCalm}
 use Rattle.lvm_steps.specs.Moments.{RunBegins, Keeps, Upholds}
 use Rattle.lvm_steps.proofs.GroupLemmas.Members.{member_of_parts}
-use Rattle.lvm_tie.proofs.passed.Names.{shows_group}
+use Rattle.lvm_tie.proofs.passed.Commit.{shows_group}
 use Rattle.lvm_mwc.specs.declared.notes.DiskNotes.{DiskNotes}
 use Rattle.lvm_mwc.specs.Cache.{flight_on, no_notes}
 use Rattle.lvm_status.specs.Update.{Updates}

@@ -38,7 +38,7 @@ use Rattle.lvm_rest.specs.Rest.{HasCopies, IsModelAtRest, SeesThat}
 use Rattle.lvm_rest.proofs.ClosedLemmas.{calm_is_closed}
 use Rattle.lvm_rest.proofs.GoodLemmas.Good.{rest_is_good}
 use Rattle.lvm_rest.proofs.GoodLemmas.Seen.{rest_is_seen}
-use Rattle.lvm_tie.specs.passed.Names.{OnlyUpdateSince}
+use Rattle.lvm_tie.specs.passed.Crash.{OnlyUpdateSince}
 use Rattle.lvm_tie.specs.Out.{CarryTheirs, IsWriteOf}
 use Rattle.lvm_tie.specs.Seen.{Sees, SeesCopy, SeesNote, step_write_in, update_of, SeesStatus}
 use Rattle.lvm_tie.proofs.SeenLemmas.Beside.{closed_beside}

@@ -22,7 +22,7 @@ use Rattle.lvm_session.specs.Bringing.{block_at, groups_of, has_row, step_place}
 use Rattle.lvm_session.specs.Calls.{aged, opened}
 use Rattle.lvm_session.specs.Ends.{with_step}
 use Rattle.lvm_session.specs.Sound.{IsSound}
-use Rattle.lvm_keeps_events.proofs.passed.Names.{below_next}
+use Rattle.lvm_keeps_events.proofs.passed.Calls.{below_next}
 use Rattle.lvm_invariant.specs.State.{Beside, Held, ModelCopy, Queued, ModelState}
 use Rattle.lvm_invariant.specs.EnterStep.{entered}
 use Rattle.lvm_invariant.specs.Events.{EnterStep, Open as Opening, ModelStep}

@@ -28,7 +28,7 @@ use Rattle.lvm_session.specs.declared.answers.Taken.{Taken as Answer}
 use Rattle.lvm_session.specs.Calls.{OpenGives, OpenMoveGives, Opens, OpensMove, move_fault, SubmitGives, TakeAt, TakeGives, TakesLanded, after_take, aged, ask_fault, copy_fault, is_asked, new_open, submitted, CallsStale}
 use Rattle.lvm_session.specs.Dark.{all_dark, is_cut}
 use Rattle.lvm_session.specs.Turns.{ArrangesSession}
-use Rattle.lvm_keeps_events.proofs.passed.Names.{all_mapped, all_removed}
+use Rattle.lvm_keeps_events.proofs.passed.Keeps.{all_mapped, all_removed}
 use Rattle.lvm_tie.specs.Landings.{CallsKeepCauses, FailuresAreCaused, HasCausesSince}
 use Rattle.lvm_tie.proofs.SessionEndsLemmas.Grounds.{ground}
 use Rattle.lvm_tie.specs.Running.{KeepsOrigin}

@@ -50,7 +50,7 @@ use Rattle.lvm_session.specs.Turns.{Darkens, FinishMakes, Finishes, GoesOff, Mak
 use Rattle.lvm_session.specs.Causes.{was_fresh, AnyFailedSince, AreCaused, AreCounted, TargetHasFailed, IsCaused, IsCounted, IsLandedFor, faults_at_first, is_blamed, was_usable}
 use Rattle.lvm_session.specs.Requests.{IsOpenOne}
 use Rattle.lvm_session.specs.Sound.{IsAsked, IsSound}
-use Rattle.lvm_keeps_events.proofs.passed.Names.{landing_is_caused, all_set, loss_is_caused, both}
+use Rattle.lvm_keeps_events.proofs.passed.Keeps.{landing_is_caused, all_set, loss_is_caused, both}
 use Rattle.lvm_keeps_events.proofs.EndsLemmas.CopyReadFail.{some_at}
 use Rattle.lvm_keeps_events.proofs.EndsLemmas.Counts.{rose_on, rose_since}
 use Rattle.lvm_keeps_events.proofs.RequestsLemmas.{waits}

@@ -33,7 +33,7 @@ use Rattle.lvm_session.specs.declared.open.Power.TheVariants as power
 use Rattle.lvm_session.specs.State.{Core, State, state}
 use Rattle.lvm_session.specs.Sound.{IsSound}
 use Rattle.lvm_session.specs.Turns.{ArrangesSession}
-use Rattle.lvm_keeps_events.proofs.passed.Names.{back_long, hands_long}
+use Rattle.lvm_keeps_events.proofs.passed.Keeps.{back_long, hands_long}
 use Rattle.lvm_tie.specs.GoingOn.{SessionGoesOn}
 use Rattle.lvm_tie.specs.Landings.{HasCausesSince}
 use Rattle.lvm_tie.specs.Spares.{LeavesDescriptors, SparesDescriptors}

@@ -36,7 +36,7 @@ use Rattle.lvm_session.specs.Enabled.{can_pin, is_pin}
 use Rattle.lvm_session.specs.Events.{Pins}
 use Rattle.lvm_session.specs.Requests.{IsPinned, IsRecorded, MayBeServed}
 use Rattle.lvm_session.specs.Sound.{IsSound, pins}
-use Rattle.lvm_keeps_events.proofs.passed.Names.{pins_entry}
+use Rattle.lvm_keeps_events.proofs.passed.Keeps.{pins_entry}
 use Rattle.lvm_invariant.specs.State.{Queued, Ready, ModelState, is_pinning}
 use Rattle.lvm_invariant.specs.Updates.{put}
 use Rattle.lvm_invariant.specs.Pin.{Pins as MayPin, pinned}

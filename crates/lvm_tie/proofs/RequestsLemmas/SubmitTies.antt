@@ -39,7 +39,7 @@ use Rattle.lvm_session.specs.declared.answers.AskFault.{AskFault}
 use Rattle.lvm_session.specs.Calls.{ask_fault, new_open, submitted}
 use Rattle.lvm_session.specs.Asking.{IsAsking}
 use Rattle.lvm_session.specs.Sound.{IsSound}
-use Rattle.lvm_keeps_events.proofs.passed.Names.{below_next}
+use Rattle.lvm_keeps_events.proofs.passed.Calls.{below_next}
 use Rattle.lvm_invariant.specs.State.{Held, Queued, ModelState, covers}
 use Rattle.lvm_invariant.specs.Submit.{IsPlaced, Submits, submitted as sees_submitted}
 use Rattle.lvm_invariant.specs.Events.{Event, Submit}

@@ -20,8 +20,9 @@ use Rattle.lvm_kept.specs.Plans.{ChangesBy}
 use Rattle.lvm_kept.specs.Torn.{IsOutsideSlots}
 use Rattle.lvm_kept.proofs.TornLemmas.Records.{newest_stays}
 use Rattle.lvm_kept.proofs.PlansLemmas.{of_removed}
-use Rattle.lvm_tie.specs.passed.Names.{FindsNothingNew}
-use Rattle.lvm_tie.proofs.passed.Names.{rest_finds_nothing_new, status_fits, writes_at, reads_none}
+use Rattle.lvm_tie.specs.passed.Commit.{FindsNothingNew}
+use Rattle.lvm_tie.proofs.passed.Commit.{rest_finds_nothing_new, status_fits}
+use Rattle.lvm_tie.proofs.passed.Crash.{writes_at, reads_none}
 use Rattle.lvm_rec.specs.Homes.{next_slot, second_slots}
 use Rattle.lvm_path.specs.declared.target.Target.{Target}
 use Rattle.lvm_path.specs.Asks.{at_of}

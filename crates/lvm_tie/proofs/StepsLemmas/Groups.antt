@@ -20,7 +20,7 @@ use Rattle.lvm_session.specs.Bringing.{is_held_stale, block_at, copy_ends, group
 use Rattle.lvm_session.specs.Ends.{with_step}
 use Rattle.lvm_session.specs.Marks.{Reviews, is_entailed}
 use Rattle.lvm_session.specs.Sound.{IsSound}
-use Rattle.lvm_keeps_events.proofs.passed.Names.{below_next}
+use Rattle.lvm_keeps_events.proofs.passed.Calls.{below_next}
 use Rattle.lvm_keeps_events.specs.GroupEnds.{EndsGroup}
 use Rattle.lvm_invariant.specs.State.{Held, Queued, ModelState}
 use Rattle.lvm_invariant.specs.EnterStep.{StepEnters, entered}

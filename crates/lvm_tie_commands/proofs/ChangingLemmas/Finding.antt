@@ -6,8 +6,8 @@ use Rattle.lvm_disk.specs.Device.{Media}
 use Rattle.lvm_kept.proofs.MomentsLemmas.Chaining.{span_told}
 use Rattle.lvm_commit.proofs.LawsOfDataLemmas.Still.{still_holds_committed}
 use Rattle.lvm_session.specs.State.{State, is_there}
-use Rattle.lvm_volume_plan.specs.passed.Names.{MayBeFound}
-use Rattle.lvm_handover.specs.passed.Names.{IsHeld}
+use Rattle.lvm_volume_plan.specs.passed.Core.{MayBeFound}
+use Rattle.lvm_handover.specs.passed.Core.{IsHeld}
 use Rattle.lvm_tie_commands.specs.Changing.{ChangeFindsTwo}
 use Rattle.lvm_tie_commands.proofs.BeginsLemmas.{Held}
 use Rattle.lvm_tie_commands.proofs.HeldLemmas.{holds_before}

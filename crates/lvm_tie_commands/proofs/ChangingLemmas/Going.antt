@@ -17,10 +17,12 @@ use Rattle.lvm_write.specs.Written.{KeepsShelf}
 use Rattle.lvm_commit.specs.LawsOfVolumes.{IsOneFoundOn}
 use Rattle.lvm_commit.proofs.SettlingLemmas.Chaining.{keeps_wider}
 use Rattle.lvm_session.specs.State.{Core, State, is_there, moment_of}
-use Rattle.lvm_volume_plan.specs.passed.Names.{IsSettled}
-use Rattle.lvm_handover.specs.passed.Names.{IsOfCommand, NoPartition}
-use Rattle.lvm_settled.specs.passed.Names.{IsEven}
-use Rattle.lvm_members.specs.passed.Names.{with_quorum, as_big, DiffersInRule, IsNext, IsOfChange}
+use Rattle.lvm_volume_plan.specs.passed.Core.{IsSettled}
+use Rattle.lvm_handover.specs.passed.Core.{IsOfCommand, NoPartition}
+use Rattle.lvm_settled.specs.passed.Even.{IsEven}
+use Rattle.lvm_members.specs.passed.Change.{with_quorum, as_big}
+use Rattle.lvm_members.specs.passed.ChangeLaws.{DiffersInRule}
+use Rattle.lvm_members.specs.passed.Turnover.{IsNext, IsOfChange}
 use Rattle.lvm_volumes.specs.Endings.{StillHeld}
 use Rattle.lvm_members.specs.declared.fault.RuleFault.{RuleFault}
 use Rattle.lvm_members.specs.declared.fault.RuleFault.TheVariants as fault

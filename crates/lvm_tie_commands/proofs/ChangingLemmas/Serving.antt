@@ -16,9 +16,11 @@ use Rattle.lvm_session.specs.State.{Core, State}
 use Rattle.lvm_session.specs.Judging.{copies_in, is_missing}
 use Rattle.lvm_session.specs.Left.{updates_left}
 use Rattle.lvm_session.specs.Sound.{IsSound}
-use Rattle.lvm_volume_plan.specs.passed.Names.{HasStated, NoPartition, WasLeftBehind, IsSettled}
+use Rattle.lvm_volume_plan.specs.passed.Core.{HasStated, NoPartition, WasLeftBehind, IsSettled}
 use Rattle.lvm_keeps.proofs.LeftLemmas.Updates.{few_updates}
-use Rattle.lvm_members.specs.passed.Names.{with_quorum, as_big, DiffersInRule, ChangeLeaves, IsNext}
+use Rattle.lvm_members.specs.passed.Change.{with_quorum, as_big}
+use Rattle.lvm_members.specs.passed.ChangeLaws.{DiffersInRule}
+use Rattle.lvm_members.specs.passed.Turnover.{ChangeLeaves, IsNext}
 use Rattle.lvm_volumes.specs.Endings.{HasFresh, KeepsFresh, StillHeld}
 use Rattle.lvm_volumes.proofs.StagesLemmas.Entering.{many_bound}
 use Rattle.lvm_members.specs.declared.fault.RuleFault.{RuleFault}

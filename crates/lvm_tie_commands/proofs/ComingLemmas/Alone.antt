@@ -20,8 +20,8 @@ use Rattle.lvm_commit.specs.Committed.{HoldsCommitted}
 use Rattle.lvm_commit.specs.LawsOfVolumes.{IsOneFoundOn}
 use Rattle.lvm_commit.proofs.LawsOfDataLemmas.Still.{still_image}
 use Rattle.lvm_session.specs.State.{Core, State, is_there}
-use Rattle.lvm_varyon.specs.passed.Names.{Beginning, IsOfParts, Part, TheDescriptor, TheNotes, TheStatus, new_order}
-use Rattle.lvm_settled.specs.passed.Names.{Room}
+use Rattle.lvm_varyon.specs.passed.Write.{Beginning, IsOfParts, Part, TheDescriptor, TheNotes, TheStatus, new_order}
+use Rattle.lvm_settled.specs.passed.Core.{Room}
 use Rattle.lvm_group.specs.Made.{IsMade, beginning_for}
 use Rattle.lvm_group.specs.NewGroup.{NewGroup, among, new_group, size_for}
 use Rattle.lvm_group.specs.Shown.{HasGroup}

@@ -42,18 +42,18 @@ use Rattle.lvm_keeps.proofs.SoundLemmas.Telling.{open_still}
 use Rattle.lvm_session.specs.Placed.{ArePlaced}
 use Rattle.lvm_session.specs.Causes.{faults_at_first}
 use Rattle.lvm_session.specs.Sound.{IsFitting, IsSound, is_dark}
-use Rattle.lvm_settled.specs.passed.Names.{Room, NotesAreHome, HaveAllLanded, IsFittingAtRest, IsRoom, session_room_of}
-use Rattle.lvm_settled.proofs.passed.Names.{empty_names_none}
+use Rattle.lvm_settled.specs.passed.Core.{Room, NotesAreHome, HaveAllLanded, IsFittingAtRest, IsRoom, session_room_of}
+use Rattle.lvm_settled.proofs.passed.Core.{empty_names_none}
 use Rattle.lvm_mwc.specs.Cache.{is_named as is_named_by}
 use Rattle.lvm_kept.proofs.CommittedLemmas.Finding.{images_within}
-use Rattle.lvm_varyon.specs.passed.Names.{DirtyAreOne}
-use Rattle.lvm_varyon.proofs.passed.Names.{quiet_dirty_is_even}
+use Rattle.lvm_varyon.specs.passed.Tidying.{DirtyAreOne}
+use Rattle.lvm_varyon.proofs.passed.Tidying.{quiet_dirty_is_even}
 use Rattle.lvm_varyon.specs.Second.{status_after, last_seq}
 use Rattle.lvm_varyon.proofs.SecondLemmas.{last_seq_low}
 use Rattle.lvm_group.specs.NewGroup.{given_up, new_group, new_status}
-use Rattle.lvm_tie.specs.passed.Names.{MissingAreStale}
+use Rattle.lvm_tie.specs.passed.Even.{MissingAreStale}
 use Rattle.lvm_tie.specs.Tied.{IsGood, moment_of}
-use Rattle.lvm_tie.proofs.passed.Names.{none_is_left_behind}
+use Rattle.lvm_tie.proofs.passed.Even.{none_is_left_behind}
 use Rattle.lvm_tie.specs.Begins.{BeginsSound, StandsAtRest, Start, begun, shown_to}
 use Rattle.lvm_tie.proofs.BeginsLemmas.Beginning.{begins_good}
 use Rattle.lvm_tie_commands.specs.Coming.{IsBegun, IsDriven, IsMadeEven, LeadsTo, MadeServes, VariedIsMadeEven, VariedOnServes}

@@ -21,9 +21,10 @@ use Rattle.lvm_commit.specs.LawsOfVolumes.{IsOneFoundOn}
 use Rattle.lvm_session.specs.State.{Core, State, is_there, state}
 use Rattle.lvm_session.specs.Judging.{is_missing}
 use Rattle.lvm_session.specs.Sound.{IsSound}
-use Rattle.lvm_handover.specs.passed.Names.{moment_of, IsHeld, NotesAreHome, StartsHeld, EntersVolumes, IsOfCommand, Leaves, Scope, IsSettled, GroupFault, IfOn, is_over}
+use Rattle.lvm_handover.specs.passed.Core.{moment_of, IsHeld, NotesAreHome, StartsHeld, EntersVolumes, IsOfCommand, Leaves, Scope, IsSettled}
+use Rattle.lvm_handover.specs.passed.VolumePlan.{GroupFault, IfOn, is_over}
 use Rattle.lvm_handover.specs.passed.Volumes.{IfAlone, StillHeld}
-use Rattle.lvm_settled.specs.passed.Names.{IsEven}
+use Rattle.lvm_settled.specs.passed.Even.{IsEven}
 use Rattle.lvm_volumes.specs.Even.{AreWanted}
 use Rattle.lvm_tie.specs.Spares.{SparesDescriptors}
 use Rattle.lvm_tie.specs.Tied.{IsTied}

@@ -12,8 +12,9 @@ use Rattle.lvm_steps.specs.Moments.{Keeps}
 use Rattle.lvm_commit.specs.LawsOfData.{IsFree}
 use Rattle.lvm_commit.specs.LawsOfVolumes.{IsOneFoundOn}
 use Rattle.lvm_session.specs.State.{Core, State, is_there}
-use Rattle.lvm_handover.specs.passed.Names.{moment_of, EntersVolumes, IsSettled, GroupFault, NewVolume, row_for, with_volume, IfOn}
-use Rattle.lvm_handover.proofs.passed.Names.{enters_one}
+use Rattle.lvm_handover.specs.passed.Core.{moment_of, EntersVolumes, IsSettled}
+use Rattle.lvm_handover.specs.passed.VolumePlan.{GroupFault, NewVolume, row_for, with_volume, IfOn}
+use Rattle.lvm_handover.proofs.passed.Core.{enters_one}
 use Rattle.lvm_handover.specs.passed.VolumePlanFaultGroupFault as fault
 use Rattle.lvm_volumes.specs.Volumes.{AreZeroed}
 use Rattle.lvm_handover.specs.passed.Volumes.{StillHeld, IsChosen, IsVolumeMade, MklvGives, making, to_make}
@@ -21,8 +22,8 @@ use Rattle.lvm_handover.proofs.passed.Volumes.{free_of}
 use Rattle.lvm_handover.specs.Serving.{IsCommanded}
 use Rattle.lvm_volumes.proofs.EvenLemmas.Even.{mklv_keeps_even}
 use Rattle.lvm_volumes.proofs.EvenLemmas.Off.{zeroed_volume_is_even}
-use Rattle.lvm_settled.specs.passed.Names.{IsEven}
-use Rattle.lvm_settled.proofs.passed.Names.{mib_positive}
+use Rattle.lvm_settled.specs.passed.Even.{IsEven}
+use Rattle.lvm_settled.proofs.passed.Even.{mib_positive}
 use Rattle.lvm_tie.specs.Begins.{shown_to}
 use Rattle.lvm_tie_commands.specs.Commands.{IsAloneAtFirst, IsLeftStandingSince, MayBeCommanded, MklvGoesOn}
 use Rattle.lvm_tie_commands.proofs.CommandsLemmas.Commands.{KeepsEven, is_alone, keeps_on, left_standing, on_all}

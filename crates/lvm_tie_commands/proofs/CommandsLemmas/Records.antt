@@ -27,7 +27,7 @@ use Rattle.lvm_even.proofs.CommandsLemmas.{free_keeps_even}
 use Rattle.lvm_even.specs.Even.{IsEven}
 use Rattle.lvm_volumes.specs.Even.{AreWanted}
 use Rattle.lvm_session.specs.State.{State, is_there}
-use Rattle.lvm_handover.specs.passed.Names.{IsOfCommand, NoPartition}
+use Rattle.lvm_handover.specs.passed.Core.{IsOfCommand, NoPartition}
 
 record_low : (kind : Kind) (slot part len s : ℕ) → slot < 2 → len ≤ longest_content kind → part < record_sectors len → s ≡ slot_start kind slot + part → s < data_start
 record_low kind.Descriptor slot part len s two fits inside place = subst (λ (n : ℕ). n < data_start) (sym place) (slot_below kind.Descriptor slot part two (omega (arith, fits, inside)))

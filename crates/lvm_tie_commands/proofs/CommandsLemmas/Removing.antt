@@ -8,13 +8,14 @@ use Rattle.lvm_kept.specs.Moments.{Moment}
 use Rattle.lvm_steps.specs.Moments.{Keeps}
 use Rattle.lvm_commit.specs.LawsOfVolumes.{IsOneFoundOn}
 use Rattle.lvm_session.specs.State.{Core, State, is_there}
-use Rattle.lvm_handover.specs.passed.Names.{moment_of, EntersVolumes, IsSettled, GroupFault, without_volume, IfOn}
+use Rattle.lvm_handover.specs.passed.Core.{moment_of, EntersVolumes, IsSettled}
+use Rattle.lvm_handover.specs.passed.VolumePlan.{GroupFault, without_volume, IfOn}
 use Rattle.lvm_handover.specs.passed.VolumePlanFaultGroupFault as fault
 use Rattle.lvm_handover.specs.passed.Volumes.{StillHeld, RmlvGives, to_remove}
 use Rattle.lvm_handover.specs.Serving.{IsCommanded}
 use Rattle.lvm_volumes.proofs.EvenLemmas.Even.{rmlv_keeps_even}
 use Rattle.lvm_volumes.proofs.EvenLemmas.Off.{fewer_are_even}
-use Rattle.lvm_settled.specs.passed.Names.{IsEven}
+use Rattle.lvm_settled.specs.passed.Even.{IsEven}
 use Rattle.lvm_tie.specs.Begins.{shown_to}
 use Rattle.lvm_tie_commands.specs.Commands.{IsLeftStandingSince, MayBeCommanded, RmlvGoesOn}
 use Rattle.lvm_tie_commands.proofs.CommandsLemmas.Commands.{KeepsEven, is_alone, keeps_on, left_standing, on_all}

@@ -30,10 +30,10 @@ use Rattle.lvm_session.specs.State.{State, is_there}
 use Rattle.lvm_volume_plan.specs.CopiesFaults.{has_usable}
 use Rattle.lvm_volumes.specs.Tidying.{lacks_usable, needs_mark, to_tidy, unneeded}
 use Rattle.lvm_volumes.proofs.TidyingLemmas.{some_lacks}
-use Rattle.lvm_handover.specs.passed.Names.{IsSettled}
+use Rattle.lvm_handover.specs.passed.Core.{IsSettled}
 use Rattle.lvm_tie.specs.Begins.{shown_to}
-use Rattle.lvm_settled.specs.passed.Names.{MissingAreStale}
-use Rattle.lvm_settled.proofs.passed.Names.{none_is_left_behind}
+use Rattle.lvm_settled.specs.passed.Even.{MissingAreStale}
+use Rattle.lvm_settled.proofs.passed.Even.{none_is_left_behind}
 use Rattle.lvm_tie_commands.specs.Commands.{MayBeCommanded, TidyGoesOn}
 use Rattle.lvm_tie_commands.proofs.CommandsLemmas.Commands.{keeps_on}
 use Rattle.lvm_tie_commands.proofs.HeldLemmas.{Carries, carries}

@@ -13,13 +13,16 @@ use Rattle.lvm_disk.specs.Device.{image_of}
 use Rattle.lvm_kept.specs.Contents.{contents_of}
 use Rattle.lvm_kept.specs.Moments.{Moment}
 use Rattle.lvm_steps.specs.Moments.{Keeps}
-use Rattle.lvm_tie_commands.specs.passed.Names.{IsOneFoundOn, moment_of, NoPartition, NoVolume, IsSettled, GroupFault, IfOn}
+use Rattle.lvm_tie_commands.specs.passed.Commit.{IsOneFoundOn}
+use Rattle.lvm_tie_commands.specs.passed.Core.{moment_of, NoPartition, NoVolume, IsSettled}
+use Rattle.lvm_tie_commands.specs.passed.VolumePlan.{GroupFault, IfOn}
 use Rattle.lvm_map.specs.FirstFit.{IsAllocated, more_copies}
 use Rattle.lvm_map.proofs.FirstFitLemmas.OneAnswer.{map_is_one}
 use Rattle.lvm_session.specs.State.{Core, State, is_there}
 use Rattle.lvm_tie_commands.specs.passed.VolumePlanFaultGroupFault as fault
 use Rattle.lvm_volumes.specs.Endings.{StillHeld}
-use Rattle.lvm_volumes.specs.passed.Names.{further_copies, with_copies, with_map, HasFurtherPlaces, IsEven}
+use Rattle.lvm_volumes.specs.passed.VolumePlan.{further_copies, with_copies, with_map, HasFurtherPlaces}
+use Rattle.lvm_volumes.specs.passed.Even.{IsEven}
 use Rattle.lvm_volumes.specs.Mirrors.{AreAdded, IsFurther, IsWithMore, MklvcopyGives, to_add}
 use Rattle.lvm_volumes.proofs.LawsLemmas.{more_are_even}
 use Rattle.lvm_tie_commands.specs.passed.Handover.{IsCommanded}

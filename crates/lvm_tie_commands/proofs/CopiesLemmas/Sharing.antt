@@ -40,8 +40,8 @@ use Rattle.lvm_commit.specs.LawsOfData.{IsSectorOf}
 use Rattle.lvm_commit.proofs.AmongLemmas.{one_place}
 use Rattle.lvm_commit.proofs.LawsLemmas.Found.{shows_group, status_read}
 use Rattle.lvm_commit.proofs.LawsOfDataLemmas.Free.{partition_is}
-use Rattle.lvm_commit.proofs.passed.Names.{at_passing}
-use Rattle.lvm_settled.specs.passed.Names.{IsEven}
+use Rattle.lvm_commit.proofs.passed.Steps.{at_passing}
+use Rattle.lvm_settled.specs.passed.Even.{IsEven}
 use Rattle.lvm_map.proofs.PlacesLemmas.{volume_at}
 use Rattle.lvm_write.proofs.WrittenLemmas.Writing.{if_told}
 use Rattle.lvm_volume_plan.specs.Split.{kept_row, split_row, with_split}
@@ -51,7 +51,7 @@ use Rattle.lvm_parted.specs.Parted.{HasPartOf, IsSplitInto}
 use Rattle.lvm_session.specs.State.{Core, State, is_there, moment_of}
 use Rattle.lvm_split.specs.Splitting.{IsSplit, IsVolumeSplit, to_split}
 use Rattle.lvm_split.proofs.SplittingLemmas.Copies as copies_
-use Rattle.lvm_handover.specs.passed.Names.{IsOfCommand, IsSettled, NoPartition}
+use Rattle.lvm_handover.specs.passed.Core.{IsOfCommand, IsSettled, NoPartition}
 use Rattle.lvm_tie_commands.specs.passed.Handover.{IsCommanded}
 use Rattle.lvm_tie_commands.specs.Commands.{MayBeCommanded}
 use Rattle.lvm_tie_commands.specs.Sharing.{HoldTheSame, ShareContent, SplitShares, WritesStayApart}

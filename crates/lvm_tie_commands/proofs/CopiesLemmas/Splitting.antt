@@ -11,15 +11,17 @@ use Rattle.lvm_vol.specs.Order.{Ordered}
 use Rattle.lvm_kept.specs.Contents.{contents_of}
 use Rattle.lvm_kept.specs.Moments.{Moment}
 use Rattle.lvm_steps.specs.Moments.{RunBegins, Keeps}
-use Rattle.lvm_handover.specs.passed.Names.{EntersVolumes}
-use Rattle.lvm_tie_commands.specs.passed.Names.{IsOneFoundOn, moment_of, NoPartition, IsSettled, GroupFault, IfOn}
+use Rattle.lvm_handover.specs.passed.Core.{EntersVolumes}
+use Rattle.lvm_tie_commands.specs.passed.Commit.{IsOneFoundOn}
+use Rattle.lvm_tie_commands.specs.passed.Core.{moment_of, NoPartition, IsSettled}
+use Rattle.lvm_tie_commands.specs.passed.VolumePlan.{GroupFault, IfOn}
 use Rattle.lvm_session.specs.State.{Core, State, is_there}
 use Rattle.lvm_tie_commands.specs.passed.VolumePlanFaultGroupFault as fault
 use Rattle.lvm_volume_plan.specs.NewVolume.{IsLowestFree}
 use Rattle.lvm_volume_plan.specs.Split.{kept_row, split_row, with_split}
 use Rattle.lvm_volume_plan.proofs.CopiesLemmas.Rows.{one_found}
 use Rattle.lvm_volumes.specs.Endings.{StillHeld}
-use Rattle.lvm_volumes.specs.passed.Names.{IsEven}
+use Rattle.lvm_volumes.specs.passed.Even.{IsEven}
 use Rattle.lvm_map.proofs.PlacesLemmas.{volume_at}
 use Rattle.lvm_write.proofs.WrittenLemmas.Writing.{if_told}
 use Rattle.lvm_parted.proofs.PartedLemmas.{split_stays_even}

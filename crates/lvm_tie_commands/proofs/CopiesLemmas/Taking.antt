@@ -7,11 +7,14 @@ use Rattle.lvm_disk.specs.Device.{image_of}
 use Rattle.lvm_kept.specs.Contents.{contents_of}
 use Rattle.lvm_kept.specs.Moments.{Moment}
 use Rattle.lvm_steps.specs.Moments.{Keeps}
-use Rattle.lvm_tie_commands.specs.passed.Names.{IsOneFoundOn, moment_of, NoPartition, NoVolume, IsSettled, GroupFault, IfOn}
+use Rattle.lvm_tie_commands.specs.passed.Commit.{IsOneFoundOn}
+use Rattle.lvm_tie_commands.specs.passed.Core.{moment_of, NoPartition, NoVolume, IsSettled}
+use Rattle.lvm_tie_commands.specs.passed.VolumePlan.{GroupFault, IfOn}
 use Rattle.lvm_session.specs.State.{Core, State, is_there}
 use Rattle.lvm_tie_commands.specs.passed.VolumePlanFaultGroupFault as fault
 use Rattle.lvm_volumes.specs.Endings.{StillHeld}
-use Rattle.lvm_volumes.specs.passed.Names.{first_copies, with_copies, IsEven}
+use Rattle.lvm_volumes.specs.passed.VolumePlan.{first_copies, with_copies}
+use Rattle.lvm_volumes.specs.passed.Even.{IsEven}
 use Rattle.lvm_volumes.specs.Mirrors.{AreTaken, IsWithFirst, RmlvcopyGives, to_take}
 use Rattle.lvm_volumes.proofs.LawsLemmas.{first_are_even}
 use Rattle.lvm_tie_commands.specs.passed.Handover.{IsCommanded}

@@ -8,11 +8,12 @@ use Rattle.lvm_num.specs.Buffer.{zero_sector}
 use Rattle.lvm_num.specs.Descriptor.{IsValid, is_member}
 use Rattle.lvm_num.specs.Votes.{CanWrite, votes_by}
 use Rattle.lvm_session.specs.State.{Core, is_there}
-use Rattle.lvm_tie.specs.passed.Names.{even_pair}
+use Rattle.lvm_tie.specs.passed.Even.{even_pair}
 use Rattle.lvm_settled.specs.Examples.{IsSettledPair, core_of}
 use Rattle.lvm_settled.proofs.ExamplesLemmas.Examples.{pairs_settle}
-use Rattle.lvm_members.specs.passed.Names.{LosesVotes, as_big, with_quorum, MayChangeRule}
-use Rattle.lvm_members.proofs.passed.Names.{big_valid, quorum_valid}
+use Rattle.lvm_members.specs.passed.Change.{LosesVotes, as_big, with_quorum}
+use Rattle.lvm_members.specs.passed.ChangeLaws.{MayChangeRule}
+use Rattle.lvm_members.proofs.passed.Change.{big_valid, quorum_valid}
 use Rattle.lvm_members.specs.Commands.{MayBeChanged}
 use Rattle.lvm_tie_commands.specs.Examples.{PairsMayChange}
 

@@ -24,13 +24,13 @@ use Rattle.lvm_session.specs.Sound.{IsSound}
 use Rattle.lvm_session.proofs.WorkedLemmas.Parts.{idle_is_sound, none_written, zeros_at}
 use Rattle.lvm_keeps.specs.Begins.{SessionBegins}
 use Rattle.lvm_keeps.proofs.BeginsLemmas.{beginning_is_sound}
-use Rattle.lvm_tie.specs.passed.Names.{IsEven, Pair, even_pair, media_of, past_of}
+use Rattle.lvm_tie.specs.passed.Even.{IsEven, Pair, even_pair, media_of, past_of}
 use Rattle.lvm_settled.specs.Examples.{IsSettledPair, core_of}
 use Rattle.lvm_settled.specs.Settled.{IsKnown}
 use Rattle.lvm_settled.proofs.ExamplesLemmas.Examples.{pairs_settle}
 use Rattle.lvm_settled.proofs.ExamplesLemmas.Notes.{pairs_have_notes_home}
 use Rattle.lvm_tie.specs.Begins.{IsCoreAtRest, MembersShow, ShowsIts, shown_to}
-use Rattle.lvm_tie.proofs.passed.Names.{pp_same}
+use Rattle.lvm_tie.proofs.passed.Crash.{pp_same}
 use Rattle.lvm_tie_commands.specs.Examples.{IsServingPair, PairsServe, session_of}
 use Rattle.lvm_tie_commands.specs.Settled.{IsSettledAfter, MayServe}
 use Rattle.lvm_keeps.proofs.LeftLemmas.Updates.{few_updates}

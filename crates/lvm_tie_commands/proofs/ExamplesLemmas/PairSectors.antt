@@ -11,7 +11,7 @@ use Rattle.lvm_num.specs.Record.{frame, slot_start}
 use Rattle.lvm_disk.specs.Device.{AreSectors}
 use Rattle.lvm_kept.specs.Contents.{note_sector}
 use Rattle.lvm_kept.proofs.TornLemmas.Standing.{zeros-sector}
-use Rattle.lvm_tie.specs.passed.Names.{Pair, even_pair, framed_group, framed_status, media_of, pair_sizes}
+use Rattle.lvm_tie.specs.passed.Even.{Pair, even_pair, framed_group, framed_status, media_of, pair_sizes}
 
 are_small : (bytes : List ℕ) → list_all (λ (b : ℕ). nat_lt b 256) bytes ≡ true → (i : ℕ) → get_or bytes i 0 < 256
 are_small [] all i = omega arith

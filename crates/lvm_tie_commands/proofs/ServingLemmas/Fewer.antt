@@ -11,10 +11,10 @@ use Rattle.lvm_kept.specs.Group.{IsOneOf}
 use Rattle.lvm_session.specs.State.{Core, State}
 use Rattle.lvm_session.specs.Judging.{copies_in}
 use Rattle.lvm_session.specs.Sound.{IsSound}
-use Rattle.lvm_tie_commands.specs.passed.Names.{Leaves, NoPartition, NoVolume, IsSettled}
+use Rattle.lvm_tie_commands.specs.passed.Core.{Leaves, NoPartition, NoVolume, IsSettled}
 use Rattle.lvm_tie_commands.specs.passed.VolumePlanFaultGroupFault as fault
 use Rattle.lvm_volumes.specs.Endings.{HasFresh, KeepsFresh, StillHeld}
-use Rattle.lvm_volumes.specs.passed.Names.{first_copies, with_copies}
+use Rattle.lvm_volumes.specs.passed.VolumePlan.{first_copies, with_copies}
 use Rattle.lvm_volumes.proofs.passed.CopyPlanCopiesLemmasFewer as fewer
 use Rattle.lvm_volumes.specs.Mirrors.{AreTaken, IsWithFirst, to_take}
 use Rattle.lvm_tie_commands.proofs.passed.Handover.{found, had_fresh, its_row, may_serve}

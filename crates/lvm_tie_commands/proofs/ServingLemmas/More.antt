@@ -13,12 +13,12 @@ use Rattle.lvm_session.specs.State.{Core, State, is_there}
 use Rattle.lvm_session.specs.Judging.{copies_in}
 use Rattle.lvm_session.specs.Marks.{is_among}
 use Rattle.lvm_session.specs.Sound.{IsSound}
-use Rattle.lvm_tie_commands.specs.passed.Names.{Leaves, NoPartition, NoVolume, IsSettled}
+use Rattle.lvm_tie_commands.specs.passed.Core.{Leaves, NoPartition, NoVolume, IsSettled}
 use Rattle.lvm_write.proofs.NextLemmas.{copy_is_placed, is_member_of}
-use Rattle.lvm_volumes.proofs.passed.Names.{row_is_volume}
+use Rattle.lvm_volumes.proofs.passed.Even.{row_is_volume}
 use Rattle.lvm_tie_commands.specs.passed.VolumePlanFaultGroupFault as fault
 use Rattle.lvm_volumes.specs.Endings.{HasFresh, KeepsFresh, StillHeld}
-use Rattle.lvm_volumes.specs.passed.Names.{further_copies, with_copies, with_map, HasFurtherPlaces}
+use Rattle.lvm_volumes.specs.passed.VolumePlan.{further_copies, with_copies, with_map, HasFurtherPlaces}
 use Rattle.lvm_volumes.proofs.passed.CopyPlanCopiesLemmasMore as more
 use Rattle.lvm_volumes.specs.Mirrors.{AreAdded, IsFurther, IsWithMore, to_add}
 use Rattle.lvm_tie_commands.proofs.passed.Handover.{copies_at, found, had_fresh, its_row, may_serve, refused_serves}

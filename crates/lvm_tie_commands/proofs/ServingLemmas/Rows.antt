@@ -9,8 +9,8 @@ use Rattle.lvm_num.specs.declared.place.Pp.{Pp}
 use Rattle.lvm_num.specs.Descriptor.{IsValid, copies_of, volume_of, is_pp}
 use Rattle.lvm_kept.specs.Group.{IsOneOf}
 use Rattle.lvm_session.specs.Marks.{is_among}
-use Rattle.lvm_volumes.specs.passed.Names.{with_copies, with_map}
-use Rattle.lvm_volumes.proofs.passed.Names.{one_found, one_other, own_row}
+use Rattle.lvm_volumes.specs.passed.VolumePlan.{with_copies, with_map}
+use Rattle.lvm_volumes.proofs.passed.VolumePlan.{one_found, one_other, own_row}
 
 -- the partition is a copy of a volume of that number
 pub record IsCopyIn (d : Descriptor) (number lp : ℕ) (p : Pp) : Type 0 where

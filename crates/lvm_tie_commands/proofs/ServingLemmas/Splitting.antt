@@ -15,16 +15,17 @@ use Rattle.lvm_map.proofs.PlacesLemmas.{volume_at}
 use Rattle.lvm_session.specs.State.{Core, State}
 use Rattle.lvm_session.specs.Judging.{copies_in}
 use Rattle.lvm_session.specs.Sound.{IsSound}
-use Rattle.lvm_tie_commands.specs.passed.Names.{Leaves, NoPartition, IsSettled, GroupFault}
+use Rattle.lvm_tie_commands.specs.passed.Core.{Leaves, NoPartition, IsSettled}
+use Rattle.lvm_tie_commands.specs.passed.VolumePlan.{GroupFault}
 use Rattle.lvm_tie_commands.specs.passed.VolumePlanFaultGroupFault as fault
 use Rattle.lvm_volume_plan.specs.CopiesFaults.{AreFewer}
 use Rattle.lvm_volume_plan.specs.NewVolume.{IsLowestFree}
 use Rattle.lvm_volume_plan.specs.Split.{MayBeSplit, split_row, with_split}
 use Rattle.lvm_volume_plan.proofs.SplitLemmas.Behind as behind
 use Rattle.lvm_volumes.specs.Endings.{HasFresh, KeepsFresh, StillHeld}
-use Rattle.lvm_volumes.specs.passed.Names.{first_copies, with_copies}
+use Rattle.lvm_volumes.specs.passed.VolumePlan.{first_copies, with_copies}
 use Rattle.lvm_volumes.proofs.passed.CopyPlanCopiesLemmasFewer as fewer
-use Rattle.lvm_volumes.proofs.passed.Names.{one_found, one_insert}
+use Rattle.lvm_volumes.proofs.passed.VolumePlan.{one_found, one_insert}
 use Rattle.lvm_split.specs.Parting.{splitting}
 use Rattle.lvm_split.specs.Splitting.{IsSplit, IsVolumeSplit, SplittingHalts, to_split}
 use Rattle.lvm_tie_commands.proofs.passed.Handover.{found, had_fresh, its_row, may_serve}

@@ -28,7 +28,7 @@ use Rattle.lvm_session.specs.Dark.{hand_of_copy}
 use Rattle.lvm_session.specs.Owners.{AreRows}
 use Rattle.lvm_session.specs.Placed.{ArePlaced}
 use Rattle.lvm_session.specs.Sound.{IsOn, IsSound, count_if, has_number, hands_with, is_dark, is_hand, out_with, waits}
-use Rattle.lvm_settled.specs.passed.Names.{HaveAllLanded, IsFittingAtRest, HasNothingUnderWay, IsSoundAtRest, IsSettled}
+use Rattle.lvm_settled.specs.passed.Core.{HaveAllLanded, IsFittingAtRest, HasNothingUnderWay, IsSoundAtRest, IsSettled}
 use Rattle.lvm_settled.specs.Settled.{IsKnown}
 use Rattle.lvm_tie.specs.Seen.{update_of}
 use Rattle.lvm_tie.specs.Spares.{SparesOn}

@@ -16,7 +16,7 @@ use Rattle.lvm_session.specs.declared.answers.Turned.{Turned}
 use Rattle.lvm_session.specs.declared.open.Power.TheVariants as power
 use Rattle.lvm_session.specs.State.{Core, State, state}
 use Rattle.lvm_session.specs.Sound.{IsSound}
-use Rattle.lvm_line.specs.passed.Names.{power_by}
+use Rattle.lvm_line.specs.passed.KeepsEvents.{power_by}
 use Rattle.lvm_session.specs.declared.answers.Turned.TheVariants as turned
 use Rattle.lvm_session.specs.declared.open.Power.{Power}
 use Rattle.lvm_line.specs.passed.Quiesce.{IsAheadEach}

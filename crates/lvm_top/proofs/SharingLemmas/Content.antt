@@ -26,7 +26,7 @@ use Rattle.lvm_kept.specs.Plans.{ChangesBy}
 use Rattle.lvm_kept.proofs.CommittedLemmas.Finding.{images_within}
 use Rattle.lvm_steps.specs.Moments.{HistoryHolds}
 use Rattle.lvm_steps.proofs.MakingLemmas.Making.{media_may}
-use Rattle.lvm_commit.proofs.passed.Names.{at_passing}
+use Rattle.lvm_commit.proofs.passed.Steps.{at_passing}
 use Rattle.lvm_map.proofs.PlacesLemmas.{volume_at}
 use Rattle.lvm_write.specs.Written.{KeepsShelf}
 use Rattle.lvm_write.proofs.WrittenLemmas.Writing.{if_told}

@@ -1,6 +1,6 @@
 -- Reads of a disk's records that follow each other.
 use Rattle.std.proofs.Common.{◌≡◌, ◌+◌, ◌-◌, ◌<◌, ◌≤◌, ℕ, Bool, false, List, length, Option, Some, IfSome, Result, Ok, Err, slice_get, slice_index_or, refl, sym, ◌∙◌, subst, arith}
-use Rattle.lvm_disk.specs.passed.Names.{Buffer}
+use Rattle.lvm_disk.specs.passed.Num.{Buffer}
 use Rattle.lvm_disk.specs.Counts.{Rose, RoseBy}
 use Rattle.lvm_disk.specs.Device.{Media, Device, IsReady}
 use Rattle.lvm_disk.specs.Paths.{Here}

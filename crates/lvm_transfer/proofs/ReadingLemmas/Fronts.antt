@@ -4,7 +4,7 @@ use Rattle.std.specs.Int.{w32, w64, from_be_bytes}
 use Rattle.std.specs.Bool.{then_some}
 use Rattle.std.proofs.lemmas.Bool.{cases_lt}
 use Rattle.std.proofs.lemmas.List.{take-append-le, drop-append-le, length-take, length-drop}
-use Rattle.lvm_disk.specs.passed.Names.{Kind, Framed, joined, record_sectors, longest_content, payload_of, announced, may_be, record_bytes, record_in}
+use Rattle.lvm_disk.specs.passed.Num.{Kind, Framed, joined, record_sectors, longest_content, payload_of, announced, may_be, record_bytes, record_in}
 use Rattle.lvm_transfer.specs.Reading.{announced_length}
 use Rattle.lvm_transfer.proofs.RecordLemmas.{joined-shifted, joined-add}
 

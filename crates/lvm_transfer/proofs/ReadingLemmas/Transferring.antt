@@ -1,6 +1,6 @@
 -- One read of a disk's records on a shelf at rest.
 use Rattle.std.proofs.Common.{◌≡◌, ◌⊎◌, inl, inr, ⊎_elim, ◌-◌, ◌<◌, ◌≤◌, ◌++◌, [], ◌∷◌, ℕ, List, Bool, Option, true, false, Some, None, IfSome, Result, Ok, Err, slice_index_or, refl, sym, ◌∙◌, ap, subst, arith}
-use Rattle.lvm_disk.specs.passed.Names.{Buffer, Sector, joined}
+use Rattle.lvm_disk.specs.passed.Num.{Buffer, Sector, joined}
 use Rattle.lvm_disk.specs.Counts.{Rose, RoseBy, Counts}
 use Rattle.lvm_disk.specs.Device.{Media, Image, Flight, Device, IsReady, IsInFlight, IsTorn, MayLeave}
 use Rattle.lvm_disk.specs.Steps.{BothTold, Puts, PutsSome, ReadsRange, Cuts, IsMiss, CountsFailure}

@@ -1,6 +1,6 @@
 -- How the one flight that is out ends.
 use Rattle.std.proofs.Common.{◌≡◌, ◌+◌, inl, inr, ⊎_elim, ◌∷◌, ◌++◌, [], ℕ, List, Bool, true, false, refl, sym, ◌∙◌, ap, subst, arith}
-use Rattle.lvm_disk.specs.passed.Names.{Buffer}
+use Rattle.lvm_disk.specs.passed.Num.{Buffer}
 use Rattle.lvm_disk.specs.Counts.{Counts}
 use Rattle.lvm_disk.specs.Device.{Flight, Device, MayLeave, IsReady}
 use Rattle.lvm_disk.specs.Steps.{Removes, Cuts, GoesDark, Starts, EndsDone, EndsFailed, CountsFailure}

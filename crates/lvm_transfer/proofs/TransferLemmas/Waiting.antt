@@ -1,6 +1,6 @@
 -- A shelf that is waited for, and one that gives back buffers.
 use Rattle.std.proofs.Common.{◌≡◌, ◌+◌, ◌-◌, ◌≤◌, [], ℕ, List, refl, sym, ◌∙◌, ap, subst, arith, true, Some}
-use Rattle.lvm_disk.specs.passed.Names.{Buffer}
+use Rattle.lvm_disk.specs.passed.Num.{Buffer}
 use Rattle.lvm_disk.specs.Counts.{RoseBy}
 use Rattle.lvm_disk.specs.Device.{Device, MayLeave}
 use Rattle.lvm_disk.specs.Steps.{Waits, FreedGives, Lights}

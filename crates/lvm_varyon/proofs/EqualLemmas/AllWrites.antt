@@ -5,7 +5,8 @@ use Rattle.lvm_disk.specs.Device.{Device}
 use Rattle.lvm_rec.specs.declared.homes.Homes.{Homes}
 use Rattle.lvm_write.specs.Parts.{Spends}
 use Rattle.lvm_write.proofs.PartsLemmas.Transfers.{spent_then}
-use Rattle.lvm_varyon.specs.passed.Names.{Cause, Recopy, EqualisedStaysKept}
+use Rattle.lvm_varyon.specs.passed.Core.{Cause}
+use Rattle.lvm_varyon.specs.passed.Recovery.{Recopy, EqualisedStaysKept}
 use Rattle.lvm_varyon.specs.passed.CoreRefusedCause as cause
 use Rattle.lvm_write.specs.Beginning.{Beginning, again_order}
 use Rattle.lvm_write.specs.Kept.{AgainStaysKept}

@@ -12,7 +12,7 @@ use Rattle.lvm_write.specs.Written.{KeepsShelf}
 use Rattle.lvm_write.proofs.PartsLemmas.Transfers.{spends_none, spends_then, spent_then}
 use Rattle.lvm_write.specs.declared.begin.Begun.{Begun}
 use Rattle.lvm_write.specs.declared.begin.Begun.TheVariants as begun
-use Rattle.lvm_varyon.specs.passed.Names.{Recopy, AllGive, IsOfCopies, StopsAtOne, EqualiseGives, SecondGives, StatesSecond, StoppedStating, WentOn, second_write, sources_and_targets}
+use Rattle.lvm_varyon.specs.passed.Recovery.{Recopy, AllGive, IsOfCopies, StopsAtOne, EqualiseGives, SecondGives, StatesSecond, StoppedStating, WentOn, second_write, sources_and_targets}
 use Rattle.lvm_varyon.specs.Equal.{AnyStop, CopyFailed, ForgettingFailed, HaveBeenCopied, IsStated, MakesEqual, PutFailed, StopsAtDisk, StopsEqualling}
 use Rattle.lvm_varyon.specs.Writing.{IsStillOut}
 

@@ -7,8 +7,9 @@ use Rattle.lvm_num.specs.Record.{longest_content}
 use Rattle.lvm_disk.specs.Device.{Device}
 use Rattle.lvm_quorum.specs.declared.row.Survey.{Survey}
 use Rattle.lvm_quorum.specs.Surveyed.{surveyed}
-use Rattle.lvm_varyon.specs.passed.Names.{Room}
-use Rattle.lvm_varyon.proofs.passed.Names.{descriptor_fits, planned_may_be_made, planned_are_apart}
+use Rattle.lvm_varyon.specs.passed.Core.{Room}
+use Rattle.lvm_varyon.proofs.passed.Core.{descriptor_fits}
+use Rattle.lvm_varyon.proofs.passed.Recovery.{planned_may_be_made, planned_are_apart}
 use Rattle.lvm_varyon.specs.declared.plan.Plan.{Plan}
 use Rattle.lvm_varyon.specs.Copied.{all_copies}
 use Rattle.lvm_varyon.specs.Equal.{MayWritePlan}

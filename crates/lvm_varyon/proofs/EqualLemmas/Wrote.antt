@@ -7,7 +7,8 @@ use Rattle.lvm_num.specs.Record.{Stamped}
 use Rattle.lvm_disk.specs.Counts.{Rose}
 use Rattle.lvm_disk.specs.Device.{Device}
 use Rattle.lvm_kept.specs.Contents.{Contents}
-use Rattle.lvm_varyon.specs.passed.Names.{MayBeFound, ArePlanned, Recopy, IsOfCopies, sources_and_targets, Cause}
+use Rattle.lvm_varyon.specs.passed.Core.{MayBeFound, Cause}
+use Rattle.lvm_varyon.specs.passed.Recovery.{ArePlanned, Recopy, IsOfCopies, sources_and_targets}
 use Rattle.lvm_varyon.proofs.Beside.{beside_both, beside_found, beside_then, copies_beside, notes_beside, wider_told}
 use Rattle.lvm_varyon.proofs.SecondLemmas.{IsOfSecond, SecondFits, second_outside, stated_keeps}
 use Rattle.lvm_kept.specs.Torn.{RecordWrite, IsOfNote}

@@ -28,8 +28,13 @@ use Rattle.lvm_steps.proofs.MakingLemmas.Making.{media_may}
 use Rattle.lvm_rec.specs.declared.homes.Homes.{Homes}
 use Rattle.lvm_status.specs.Update.{Updates}
 use Rattle.lvm_mwc.specs.Cache.{is_named as is_named_by}
-use Rattle.lvm_varyon.specs.passed.Names.{DirtyAreOne, HoldsCommitted, Core, is_there, Parts, first_core, Room, NotesAreHome}
-use Rattle.lvm_varyon.proofs.passed.Names.{copied_are_one, empty_names_none}
+use Rattle.lvm_varyon.specs.passed.Tidying.{DirtyAreOne}
+use Rattle.lvm_varyon.specs.passed.Commit.{HoldsCommitted}
+use Rattle.lvm_varyon.specs.passed.Session.{Core, is_there}
+use Rattle.lvm_varyon.specs.passed.SessionStart.{Parts, first_core}
+use Rattle.lvm_varyon.specs.passed.Core.{Room, NotesAreHome}
+use Rattle.lvm_varyon.proofs.passed.Tidying.{copied_are_one}
+use Rattle.lvm_varyon.proofs.passed.Core.{empty_names_none}
 use Rattle.lvm_write.specs.Written.{KeepsShelf}
 use Rattle.lvm_varyon.specs.Chosen.{answering}
 use Rattle.lvm_varyon.specs.Equal.{MakesEqual}

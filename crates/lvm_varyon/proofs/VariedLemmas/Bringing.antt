@@ -24,7 +24,8 @@ use Rattle.lvm_write.proofs.PartsLemmas.Transfers.{rose_then}
 use Rattle.lvm_quorum.specs.declared.row.Survey.{Survey}
 use Rattle.lvm_quorum.specs.Surveyed.{surveyed}
 use Rattle.lvm_transfer.specs.Reading.{IsUnwritten, IsCutOff}
-use Rattle.lvm_varyon.specs.passed.Names.{Room, Cause, Recopy, IsOfCopies, sources_and_targets, ArePlannedInOrder, ArePlanned}
+use Rattle.lvm_varyon.specs.passed.Core.{Room, Cause}
+use Rattle.lvm_varyon.specs.passed.Recovery.{Recopy, IsOfCopies, sources_and_targets, ArePlannedInOrder, ArePlanned}
 use Rattle.lvm_varyon.specs.passed.CoreRefusedCause as cause
 use Rattle.lvm_write.specs.Beginning.{Beginning, Part, again_beginning, IsOfParts, MayBeginAgain}
 use Rattle.lvm_write.proofs.ShownLemmas.Following.{stamps_are_of_beginning}

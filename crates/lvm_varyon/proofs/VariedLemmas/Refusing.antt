@@ -2,7 +2,7 @@
 use Rattle.std.proofs.Common.{◌≡◌, ◌≤◌, ℕ, List, Err, sym, subst, arith}
 use Rattle.lvm_disk.specs.Device.{Device}
 use Rattle.lvm_vol.specs.Log.{Log, spare_entries}
-use Rattle.lvm_varyon.specs.passed.Names.{Room, Cause, Refused}
+use Rattle.lvm_varyon.specs.passed.Core.{Room, Cause, Refused}
 use Rattle.lvm_varyon.specs.passed.CoreRefusedCause as cause
 use Rattle.lvm_varyon.specs.Varied.{VaryonRefuses, VaryonStops, VariesOnAt, log_after}
 

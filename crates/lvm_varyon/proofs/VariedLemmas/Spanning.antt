@@ -22,9 +22,12 @@ use Rattle.lvm_steps.specs.Behind.{ClockIsAhead}
 use Rattle.lvm_status.specs.Update.{Updates, members_there}
 use Rattle.lvm_commit.specs.Settling.{many_there}
 use Rattle.lvm_rec.specs.declared.homes.Homes.{Homes}
-use Rattle.lvm_varyon.specs.passed.Names.{Room, Cause, HoldsCommitted, NoneIsLeft, NotesAreHome, StartsHeld, IsSettled, HasSpareNumbers, Parts, first_core, Core, is_there}
+use Rattle.lvm_varyon.specs.passed.Core.{Room, Cause, NotesAreHome, StartsHeld, IsSettled, HasSpareNumbers}
+use Rattle.lvm_varyon.specs.passed.Commit.{HoldsCommitted, NoneIsLeft}
+use Rattle.lvm_varyon.specs.passed.SessionStart.{Parts, first_core}
+use Rattle.lvm_varyon.specs.passed.Session.{Core, is_there}
 use Rattle.lvm_varyon.specs.passed.CoreRefusedCause as cause
-use Rattle.lvm_varyon.proofs.passed.Names.{starts_settled, starts_numbered}
+use Rattle.lvm_varyon.proofs.passed.Core.{starts_settled, starts_numbered}
 use Rattle.lvm_num.specs.declared.status.Status.{Status}
 use Rattle.lvm_num.specs.Status.{calls_missing, calls_stale}
 use Rattle.lvm_varyon.specs.Second.{status_after, last_stamp}

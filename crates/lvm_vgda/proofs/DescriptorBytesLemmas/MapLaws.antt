@@ -17,7 +17,7 @@ use Rattle.lvm_num.specs.Descriptor.{IsMember, IsLaidOut, partitions_in}
 use Rattle.lvm_num.specs.DescriptorBytes.{partition_bytes, unfinished, is_at, partition_at, partitions_at, maps_at}
 use Rattle.lvm_num.specs.Reading.{◌>>=◌, Rest, number_at}
 use Rattle.lvm_num.proofs.Pairs.{All-left, All-right, AllPairs-left}
-use Rattle.lvm_vgda.proofs.passed.Names.{IsBytes, bind_ok, ok_is, both, from_both, Takes, Takes-then, wide16, number_takes, number_again}
+use Rattle.lvm_vgda.proofs.passed.Fields.{IsBytes, bind_ok, ok_is, both, from_both, Takes, Takes-then, wide16, number_takes, number_again}
 use Rattle.lvm_vgda.proofs.DescriptorBytesLemmas.MemberLaws.{none_of, AllPairs-snoc, AllPairs-last, not_true}
 use Rattle.lvm_vgda.proofs.DescriptorLemmas.VolumeLaws.{bare}
 use Rattle.lvm_vgda.proofs.UsedLemmas.{its_member}

@@ -12,7 +12,7 @@ use Rattle.lvm_num.specs.declared.descriptor.LvRow.{LvRow}
 use Rattle.lvm_num.specs.Descriptor.{partitions_in}
 use Rattle.lvm_num.specs.DescriptorBytes.{unfinished, partition_at, partitions_at, maps_at}
 use Rattle.lvm_num.specs.Reading.{◌>>=◌, Rest, number_at}
-use Rattle.lvm_vgda.specs.passed.Names.{Fault, Fails}
+use Rattle.lvm_vgda.specs.passed.Fields.{Fault, Fails}
 use Rattle.lvm_vgda.specs.passed.FieldsFaultFault as faults
 use Rattle.lvm_vgda.specs.Used.{free_at}
 

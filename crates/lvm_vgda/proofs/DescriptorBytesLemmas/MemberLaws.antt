@@ -13,7 +13,7 @@ use Rattle.lvm_num.specs.Descriptor.{IsMember, AreMembers}
 use Rattle.lvm_num.specs.DescriptorBytes.{flag, is_flag, member_bytes, member_at, members_at}
 use Rattle.lvm_num.specs.Reading.{◌>>=◌, Rest, number_at, zeros_at}
 use Rattle.lvm_num.proofs.Pairs.{All-left, All-right, AllPairs-left, AllPairs-append, AllPairs-across}
-use Rattle.lvm_vgda.proofs.passed.Names.{IsBytes, bind_ok, ok_is, both, from_both, Takes, Takes-then, byte_takes, byte_again, wide16, number_takes, number_again, zeros_take, zeros_again}
+use Rattle.lvm_vgda.proofs.passed.Fields.{IsBytes, bind_ok, ok_is, both, from_both, Takes, Takes-then, byte_takes, byte_again, wide16, number_takes, number_again, zeros_take, zeros_again}
 pub use Rattle.std.proofs.lemmas.Bool.{not-true as not_true}
 
 -- ---- lists that grow at their end

@@ -6,7 +6,7 @@ use Rattle.lvm_num.specs.Name.{is_name, padded, unpadded}
 use Rattle.lvm_num.specs.DescriptorBytes.{is_name_field, name_at}
 use Rattle.lvm_num.specs.Reading.{◌>>=◌, Rest, bytes_at}
 use Rattle.lvm_num.proofs.NameLemmas.{unpadded-padded, length-name, length-padded}
-use Rattle.lvm_vgda.proofs.passed.Names.{IsBytes, bind_ok, ok_is, both, from_both, Takes, bytes_takes, bytes_again}
+use Rattle.lvm_vgda.proofs.passed.Fields.{IsBytes, bind_ok, ok_is, both, from_both, Takes, bytes_takes, bytes_again}
 
 pub bytes_same : (xs ys : List ℕ) → bytes_eq xs ys ≡ true → xs ≡ ys
 bytes_same xs ys e = (bytes_eq-Decides xs ys).0 e

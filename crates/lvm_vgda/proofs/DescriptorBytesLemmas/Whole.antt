@@ -16,8 +16,8 @@ use Rattle.lvm_num.specs.DescriptorBytes.{flag, is_flag, descriptor_magic, membe
 use Rattle.lvm_num.specs.Reading.{◌>>=◌, Rest, bytes_at, number_at, zeros_at, end_at}
 use Rattle.lvm_num.proofs.MarksLemmas.Maps.{find-Some}
 use Rattle.lvm_num.proofs.DescriptorLemmas.Bounds.{few_volumes}
-use Rattle.lvm_vgda.specs.passed.Names.{Fault, Gives}
-use Rattle.lvm_vgda.proofs.passed.Names.{IsBytes, bind_ok, ok_is, both, from_both, Takes, bytes_takes, bytes_again, wide16, wide64, number_takes, number_again, number_value, byte_takes, byte_again, zeros_take, zeros_again}
+use Rattle.lvm_vgda.specs.passed.Fields.{Fault, Gives}
+use Rattle.lvm_vgda.proofs.passed.Fields.{IsBytes, bind_ok, ok_is, both, from_both, Takes, bytes_takes, bytes_again, wide16, wide64, number_takes, number_again, number_value, byte_takes, byte_again, zeros_take, zeros_again}
 use Rattle.lvm_vgda.proofs.DescriptorBytesLemmas.NameLaws.{bytes_same, name_takes, name_again}
 use Rattle.lvm_vgda.proofs.DescriptorBytesLemmas.MemberLaws.{all_at, not_true, at_least_1, flag_is, flag_again, is_flag_flag, MembersTaken, members_take, members_again}
 use Rattle.lvm_vgda.proofs.DescriptorLemmas.VolumeLaws.{bare, VolumesTaken, volumes_take, volumes_again, bare_length, bare_bytes, bare_volumes, whole_volumes, bare_is}

@@ -10,7 +10,7 @@ use Rattle.lvm_num.specs.declared.descriptor.LvRow.{LvRow}
 use Rattle.lvm_num.specs.Descriptor.{IsMember, most_volumes}
 use Rattle.lvm_num.specs.DescriptorBytes.{is_flag, member_at, members_at, name_at, volume_at, volumes_at}
 use Rattle.lvm_num.specs.Reading.{Rest, number_at, zeros_at}
-use Rattle.lvm_vgda.proofs.passed.Names.{bind_ok, ok_is, both, number_passes}
+use Rattle.lvm_vgda.proofs.passed.Fields.{bind_ok, ok_is, both, number_passes}
 
 member_passes : (earlier : List PvRow) (r : Rest) (x : PvRow × Rest) → member_at earlier r ≡ Ok x → IsMember x.0
 unfolding member_at

@@ -18,7 +18,7 @@ use Rattle.lvm_num.specs.DescriptorBytes.{mode_code, policy_code, mode_named, po
 use Rattle.lvm_num.specs.Reading.{◌>>=◌, Rest, number_at, zeros_at}
 use Rattle.lvm_num.proofs.Pairs.{All-left, All-right, AllPairs-left}
 use Rattle.lvm_num.proofs.Lists.{all_passed}
-use Rattle.lvm_vgda.proofs.passed.Names.{IsBytes, bind_ok, ok_is, both, from_both, Takes, Takes-then, wide16, wide32, number_takes, number_again, byte_takes, byte_again, zeros_take, zeros_again}
+use Rattle.lvm_vgda.proofs.passed.Fields.{IsBytes, bind_ok, ok_is, both, from_both, Takes, Takes-then, wide16, wide32, number_takes, number_again, byte_takes, byte_again, zeros_take, zeros_again}
 use Rattle.lvm_vgda.proofs.DescriptorBytesLemmas.NameLaws.{bytes_same, same_bytes, name_takes, name_again}
 use Rattle.lvm_vgda.proofs.DescriptorBytesLemmas.MemberLaws.{none_of, all_at, AllPairs-snoc, AllPairs-last, not_true, at_least_1}
 use Rattle.lvm_vgda.proofs.DescriptorBytesLemmas.MapLoops.{passes_on}

@@ -14,7 +14,7 @@ use Rattle.lvm_core.specs.Sound.{HaveAllLanded}
 use Rattle.lvm_core.specs.State.{state_of}
 use Rattle.lvm_range_lines.specs.passed.TieCommands.{IsLeftStandingSince, MayBeCommanded}
 use Rattle.lvm_range_lines.specs.passed.Volumes.{StillHeld}
-use Rattle.lvm_range_lines.specs.passed.Names.{AreAnswered}
+use Rattle.lvm_range_lines.specs.passed.Posts.{AreAnswered}
 use Rattle.lvm_range_lines.specs.passed.GroupLines.{EndsUnasked, most_refusals, patience_of_line, Role, IsBetweenStage, IsFittingStage, open_in, session_in, shelf_in, history_in, state_in, ScriptState, without_facts, Reply, Stage}
 use Rattle.lvm_range_lines.specs.passed.RefusalVariants as refusal
 use Rattle.lvm_range_lines.specs.passed.ReplyVariants as reply

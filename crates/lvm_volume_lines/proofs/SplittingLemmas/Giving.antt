@@ -7,7 +7,7 @@ use Rattle.lvm_session.specs.declared.open.Power.TheVariants as power
 use Rattle.lvm_session.specs.State.{Core, State}
 use Rattle.lvm_volume_lines.specs.passed.VolumePlan.{GroupFault, is_over}
 use Rattle.lvm_volume_lines.specs.passed.GroupFaultVariants as fault
-use Rattle.lvm_range_lines.specs.passed.Names.{Asked, AreAnswered}
+use Rattle.lvm_range_lines.specs.passed.Posts.{Asked, AreAnswered}
 use Rattle.lvm_volume_lines.specs.passed.Splitting.{SplitGives, SplittingHalts, splitting}
 use Rattle.lvm_range_lines.proofs.passed.GroupLines.{Bears, open_more, bears_cut, landed_bears, answered_bears, answered_on}
 use Rattle.lvm_volume_lines.proofs.Ending.{Facts, SameShape, shape_as}

@@ -19,7 +19,7 @@ use Rattle.lvm_map.proofs.LawsLemmas.NewPlaces.{new_place}
 use Rattle.lvm_map.proofs.PlacesLemmas.{volume_at, laid_out}
 use Rattle.lvm_map.proofs.FirstFitLemmas.Validity.{more_are_valid, copies_stay}
 use Rattle.lvm_kept.specs.Group.{IsOneOf}
-use Rattle.lvm_volume_plan.proofs.passed.Names.{contains}
+use Rattle.lvm_volume_plan.proofs.passed.Commit.{contains}
 use Rattle.lvm_volume_plan.specs.Copies.{with_map, with_copies, further_copies}
 use Rattle.lvm_volume_plan.proofs.Parts.{IsPart, all_of, one_part}
 use Rattle.lvm_volume_plan.proofs.CopiesLemmas.Rows.{is_set}

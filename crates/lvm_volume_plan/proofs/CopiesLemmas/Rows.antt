@@ -10,7 +10,7 @@ use Rattle.lvm_num.specs.declared.descriptor.Descriptor.{Descriptor}
 use Rattle.lvm_num.proofs.Lists.{pairs_head, pairs_tail}
 use Rattle.lvm_kept.specs.Group.{IsOneOf}
 use Rattle.lvm_steps.specs.Committing.{DiffersInVolume}
-use Rattle.lvm_volume_plan.proofs.passed.Names.{contains}
+use Rattle.lvm_volume_plan.proofs.passed.Commit.{contains}
 use Rattle.lvm_volume_plan.specs.Copies.{with_map, with_copies}
 
 abbrev has_number : ℕ → LvRow → Bool

@@ -13,7 +13,7 @@ use Rattle.lvm_num.specs.Descriptor.{IsVolume, AreVolumes, IsValid, most_volumes
 use Rattle.lvm_num.specs.Disks.{Disks}
 use Rattle.lvm_map.specs.FirstFit.{IsAllocated, new_volume}
 use Rattle.lvm_map.proofs.FirstFitLemmas.Validity.{new_is_valid}
-use Rattle.lvm_core.specs.passed.Names.{DiffersInVolume}
+use Rattle.lvm_core.specs.passed.Steps.{DiffersInVolume}
 use Rattle.lvm_volume_plan.specs.declared.new_volume.NewVolume.{NewVolume}
 use Rattle.lvm_volume_plan.specs.Faults.{MayHaveCopies}
 use Rattle.lvm_volume_plan.specs.NewVolume.{IsLowestFree, IsInOrder, row_for, with_volume}

@@ -10,7 +10,8 @@ use Rattle.lvm_num.specs.declared.descriptor.LvRow.{LvRow}
 use Rattle.lvm_num.specs.declared.descriptor.Descriptor.{Descriptor}
 use Rattle.lvm_num.specs.Descriptor.{IsVolume, IsPartitionOf, IsLaidOut, IsValid, partitions_in, volume_of}
 use Rattle.lvm_num.proofs.Pairs.{All-left, All-right, AllPairs-left, AllPairs-right, AllPairs-across, AllPairs-append}
-use Rattle.lvm_core.specs.passed.Names.{IsOneOf, DiffersInVolume}
+use Rattle.lvm_core.specs.passed.Kept.{IsOneOf}
+use Rattle.lvm_core.specs.passed.Steps.{DiffersInVolume}
 use Rattle.lvm_map.proofs.FirstFitLemmas.Validity.{with_volumes}
 use Rattle.lvm_volume_plan.specs.NewVolume.{without_volume}
 use Rattle.lvm_volume_plan.proofs.Sublists.{one_filter}

@@ -16,7 +16,7 @@ use Rattle.lvm_status.proofs.MarkingLemmas.{one_at}
 use Rattle.lvm_kept.specs.Group.{IsOneOf}
 use Rattle.lvm_volume_plan.specs.Copies.{first_copies, further_copies}
 use Rattle.lvm_volume_plan.specs.Split.{split_row}
-use Rattle.lvm_volume_plan.proofs.passed.Names.{contains, of_map, of_rows, one_place}
+use Rattle.lvm_volume_plan.proofs.passed.Commit.{contains, of_map, of_rows, one_place}
 use Rattle.lvm_volume_plan.proofs.Parts.{IsPart, all_of, pairs_of, length_of, part_there}
 use Rattle.lvm_volume_plan.proofs.CopiesLemmas.Rows.{one_found}
 use Rattle.lvm_volume_plan.proofs.CopiesLemmas.More.{none_past}

@@ -23,7 +23,7 @@ use Rattle.lvm_volume_plan.specs.Copies.{with_copies, first_copies, further_copi
 use Rattle.lvm_volume_plan.specs.CopiesFaults.{AreFewer}
 use Rattle.lvm_volume_plan.specs.Split.{kept_row, split_row, with_split}
 use Rattle.lvm_volume_plan.proofs.Sublists.{one_insert}
-use Rattle.lvm_volume_plan.proofs.passed.Names.{contains}
+use Rattle.lvm_volume_plan.proofs.passed.Commit.{contains}
 use Rattle.lvm_volume_plan.proofs.NewVolumeLemmas.NewDescriptor.{volumes_with, named_with, differs_with}
 use Rattle.lvm_volume_plan.proofs.CopiesLemmas.Rows.{find_others, named, one_found, one_other, other, own_row, same_name, same_number}
 use Rattle.lvm_volume_plan.proofs.CopiesLemmas.Fewer.{valid_fewer}

@@ -14,8 +14,8 @@ use Rattle.lvm_num.proofs.AmongLemmas.{any_one}
 use Rattle.lvm_kept.specs.Group.{IsOneOf}
 use Rattle.lvm_kept.proofs.ChangesLemmas.Entries.{volume_is_row}
 use Rattle.lvm_steps.specs.Committing.{DiffersInVolume}
-use Rattle.lvm_volume_plan.specs.passed.Names.{IsFree, IsPassedOver}
-use Rattle.lvm_volume_plan.proofs.passed.Names.{IsOnePlace, contains, of_map, one_place}
+use Rattle.lvm_volume_plan.specs.passed.Commit.{IsFree, IsPassedOver}
+use Rattle.lvm_volume_plan.proofs.passed.Commit.{IsOnePlace, contains, of_map, one_place}
 use Rattle.lvm_session.specs.Judging.{copies_in, is_wanted_stale}
 use Rattle.lvm_session.specs.State.{Core, State}
 use Rattle.lvm_volumes.specs.Endings.{HasFresh, KeepsFresh}

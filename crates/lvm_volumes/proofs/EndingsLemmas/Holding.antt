@@ -2,7 +2,8 @@
 use Rattle.std.proofs.Common.{◌≡◌, ⊎_elim, ℕ, sym, subst, ◌∙◌}
 use Rattle.lvm_num.specs.declared.descriptor.Descriptor.{Descriptor}
 use Rattle.lvm_num.specs.Descriptor.{is_member}
-use Rattle.lvm_volume_plan.specs.passed.Names.{IsOnlyGroupOn, NoneIsLeft, IsHeld, Scope, IsOfCommand, MayBeFound, FindsOnly, Leaves}
+use Rattle.lvm_volume_plan.specs.passed.Commit.{IsOnlyGroupOn, NoneIsLeft}
+use Rattle.lvm_volume_plan.specs.passed.Core.{IsHeld, Scope, IsOfCommand, MayBeFound, FindsOnly, Leaves}
 use Rattle.lvm_session.specs.State.{State, is_there}
 use Rattle.lvm_volumes.specs.Endings.{StillHeld}
 use Rattle.lvm_volumes.proofs.EndingsLemmas.Notes.{command_spares, still_missing, notes_stay}

@@ -18,7 +18,9 @@ use Rattle.lvm_kept.proofs.PlacesLemmas.{note-same}
 use Rattle.lvm_kept.proofs.TornLemmas.Records.{slot-above}
 use Rattle.lvm_mwc.specs.Cache.{Cached, is_named as is_named_by}
 use Rattle.lvm_status.specs.Update.{Stored}
-use Rattle.lvm_volume_plan.specs.passed.Names.{KeepsShelf, IsOfStatus, IsOfCommit, NotesAreHome, AreNotesHome, IsZeroOf, IsOfCommand}
+use Rattle.lvm_volume_plan.specs.passed.Write.{KeepsShelf}
+use Rattle.lvm_volume_plan.specs.passed.Commit.{IsOfStatus, IsOfCommit}
+use Rattle.lvm_volume_plan.specs.passed.Core.{NotesAreHome, AreNotesHome, IsZeroOf, IsOfCommand}
 use Rattle.lvm_session.specs.State.{State, is_there}
 use Rattle.lvm_volumes.proofs.Leaving.{there_before}
 

@@ -3,7 +3,8 @@ use Rattle.std.proofs.Common.{◌≡◌, ℕ, List, sym, ap, subst, arith}
 use Rattle.std.specs.Prelude.{Contains}
 use Rattle.lvm_num.specs.declared.place.Pp.{Pp}
 use Rattle.lvm_num.specs.Descriptor.{is_member}
-use Rattle.lvm_volume_plan.specs.passed.Names.{NoneIsLeft, KeepsRecords, NoDescriptor, Leaves, zeroing}
+use Rattle.lvm_volume_plan.specs.passed.Commit.{NoneIsLeft}
+use Rattle.lvm_volume_plan.specs.passed.Core.{KeepsRecords, NoDescriptor, Leaves, zeroing}
 use Rattle.lvm_session.specs.State.{Core, State}
 use Rattle.lvm_volumes.specs.Endings.{StillHeld, commanding}
 use Rattle.lvm_volumes.proofs.EndingsLemmas.Holding.{still_by}

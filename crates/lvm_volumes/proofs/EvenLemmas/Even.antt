@@ -25,7 +25,8 @@ use Rattle.lvm_commit.specs.Settling.{IsOfStatus, IsOfCommit}
 use Rattle.lvm_write.specs.Written.{KeepsShelf}
 use Rattle.lvm_session.specs.State.{State, is_there}
 use Rattle.lvm_core.specs.Leaves.{NoVolume}
-use Rattle.lvm_volumes.specs.passed.Names.{NoPartition, IsOfCommand, KeepsStatus, without_volume}
+use Rattle.lvm_volumes.specs.passed.Core.{NoPartition, IsOfCommand, KeepsStatus}
+use Rattle.lvm_volumes.specs.passed.VolumePlan.{without_volume}
 use Rattle.lvm_volumes.specs.Volumes.{IsWith, IsChosen}
 use Rattle.lvm_even.specs.Even.{IsEven}
 use Rattle.lvm_even.specs.Commands.{IsUsable}

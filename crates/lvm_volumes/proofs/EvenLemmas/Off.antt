@@ -18,8 +18,8 @@ use Rattle.lvm_kept.proofs.PlacesLemmas.{blocks_are_sectors}
 use Rattle.lvm_commit.specs.LawsOfData.{IsSectorOf}
 use Rattle.lvm_commit.proofs.AmongLemmas.{contains, of_map}
 use Rattle.lvm_even.proofs.Lists.{of_passing}
-use Rattle.lvm_volumes.specs.passed.Names.{NewVolume, row_for}
-use Rattle.lvm_volumes.proofs.passed.Names.{one_insert, one_filter}
+use Rattle.lvm_volumes.specs.passed.VolumePlan.{NewVolume, row_for}
+use Rattle.lvm_volumes.proofs.passed.VolumePlan.{one_insert, one_filter}
 use Rattle.lvm_volumes.specs.Volumes.{AreZeroed}
 use Rattle.lvm_volumes.specs.Even.{OffIsEven, ZeroedVolumeIsEven, FewerAreEven}
 

@@ -4,7 +4,7 @@ use Rattle.std.specs.Prelude.{Contains}
 use Rattle.lvm_num.specs.declared.place.Pp.{Pp}
 use Rattle.lvm_num.specs.declared.descriptor.Descriptor.{Descriptor}
 use Rattle.lvm_vol.specs.Log.{Log}
-use Rattle.lvm_volume_plan.specs.passed.Names.{CommitFault, Leaves}
+use Rattle.lvm_volume_plan.specs.passed.Core.{CommitFault, Leaves}
 use Rattle.lvm_volume_plan.specs.declared.fault.GroupFault.{GroupFault}
 use Rattle.lvm_volume_plan.specs.Faults.{fault_of, IfOn}
 use Rattle.lvm_volume_plan.specs.passed.CoreFaultCommitFault as commit

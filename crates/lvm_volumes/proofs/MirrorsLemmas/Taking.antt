@@ -17,7 +17,7 @@ use Rattle.lvm_commit.specs.Committed.{IsAlike}
 use Rattle.lvm_commit.specs.LawsOfVolumes.{VolumeServes}
 use Rattle.lvm_commit.specs.Settling.{NoneIsLeft, MarksLeft}
 use Rattle.lvm_session.specs.State.{Core, State, is_there}
-use Rattle.lvm_volume_plan.specs.passed.Names.{IsSettled, LetsCommit, HasCommitted, IsHeldSince, Leaves, committing}
+use Rattle.lvm_volume_plan.specs.passed.Core.{IsSettled, LetsCommit, HasCommitted, IsHeldSince, Leaves, committing}
 use Rattle.lvm_volumes.specs.Endings.{StillHeld, KeepsFresh}
 use Rattle.lvm_volumes.proofs.StagesLemmas.Entering.{commit_still}
 use Rattle.lvm_volumes.proofs.EndingsLemmas.Fresh.{not_stale}

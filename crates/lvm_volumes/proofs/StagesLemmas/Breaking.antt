@@ -4,8 +4,9 @@ use Rattle.std.specs.Prelude.{IsTrue}
 use Rattle.lvm_num.specs.declared.descriptor.Descriptor.{Descriptor}
 use Rattle.lvm_vol.specs.Log.{Log, cut_log}
 use Rattle.lvm_status.specs.Update.{members_there}
-use Rattle.lvm_volume_plan.proofs.passed.Names.{darkened_then, given_up_then, cut_core, dark_is}
-use Rattle.lvm_volume_plan.specs.passed.Names.{CommitFault, IsSettled, HasGoneDark, RecordsEnd, with_one_out, Scope, Leaves}
+use Rattle.lvm_volume_plan.proofs.passed.Write.{darkened_then, given_up_then}
+use Rattle.lvm_volume_plan.proofs.passed.Core.{cut_core, dark_is}
+use Rattle.lvm_volume_plan.specs.passed.Core.{CommitFault, IsSettled, HasGoneDark, RecordsEnd, with_one_out, Scope, Leaves}
 use Rattle.lvm_volume_plan.specs.passed.CoreFaultCommitFault as commit
 use Rattle.lvm_session.specs.declared.open.Power.TheVariants as power
 use Rattle.lvm_session.specs.Dark.{all_dark}

@@ -14,8 +14,10 @@ use Rattle.lvm_vol.specs.Log.{Log}
 use Rattle.lvm_map.specs.FirstFit.{has_partition_on}
 use Rattle.lvm_steps.proofs.RecordLemmas.{either}
 use Rattle.lvm_status.specs.Update.{members_there}
-use Rattle.lvm_volume_plan.specs.passed.Names.{IsFree, NoneIsLeft, CommitFault, IsSettled, is_among, Restates, HasStated, RecordsEnd, MarkEnds, NoDescriptor, Leaves, marking}
-use Rattle.lvm_volume_plan.proofs.passed.Names.{one_place}
+use Rattle.lvm_volume_plan.specs.passed.Commit.{IsFree, NoneIsLeft}
+use Rattle.lvm_volume_plan.specs.passed.Core.{CommitFault, IsSettled, Restates, HasStated, RecordsEnd, MarkEnds, NoDescriptor, Leaves, marking}
+use Rattle.lvm_volume_plan.specs.passed.Session.{is_among}
+use Rattle.lvm_volume_plan.proofs.passed.Commit.{one_place}
 use Rattle.lvm_volume_plan.specs.passed.CoreFaultCommitFault as commit
 use Rattle.lvm_session.specs.State.{Core, State, is_there}
 use Rattle.lvm_volumes.specs.Endings.{StillHeld, KeepsFresh, commanding}

@@ -18,8 +18,11 @@ use Rattle.lvm_kept.specs.Contents.{contents_of}
 use Rattle.lvm_kept.specs.Moments.{Moment}
 use Rattle.lvm_steps.specs.Entering.{OpensNone}
 use Rattle.lvm_steps.proofs.EnteringLemmas.{calm_goes_on}
-use Rattle.lvm_volume_plan.proofs.passed.Names.{keeps_here, spends_none, still_holds_committed, keeps_fact, same_status}
-use Rattle.lvm_volume_plan.specs.passed.Names.{HoldsCommitted, ShowsCommitted, IsOnlyGroupSince, LeavesCommitted, many_there, NoneIsLeft, MarksLeft, IsHeld, IsSettled, HasSpareNumbers, moment_of, LetsCommit, HasStated, CommitEnds, CommitFault, NoPartition, NoVolume, IsHeldSince, IsOfCommand, Leaves, committing, IsEntryOfCommand}
+use Rattle.lvm_volume_plan.proofs.passed.Write.{keeps_here, spends_none}
+use Rattle.lvm_volume_plan.proofs.passed.Commit.{still_holds_committed}
+use Rattle.lvm_volume_plan.proofs.passed.Core.{keeps_fact, same_status}
+use Rattle.lvm_volume_plan.specs.passed.Commit.{HoldsCommitted, ShowsCommitted, IsOnlyGroupSince, LeavesCommitted, many_there, NoneIsLeft, MarksLeft}
+use Rattle.lvm_volume_plan.specs.passed.Core.{IsHeld, IsSettled, HasSpareNumbers, moment_of, LetsCommit, HasStated, CommitEnds, CommitFault, NoPartition, NoVolume, IsHeldSince, IsOfCommand, Leaves, committing, IsEntryOfCommand}
 use Rattle.lvm_session.specs.State.{Core, State, is_there}
 use Rattle.lvm_steps.specs.Moments.{SpanGoesOn}
 use Rattle.lvm_volumes.specs.Endings.{StillHeld, IfAlone, commanding}

@@ -29,8 +29,10 @@ use Rattle.lvm_map.specs.FirstFit.{IsAllocated, new_volume}
 use Rattle.lvm_steps.specs.Committing.{DiffersInVolume}
 use Rattle.lvm_steps.proofs.MakingLemmas.Making.{media_may}
 use Rattle.lvm_status.specs.Update.{members_there}
-use Rattle.lvm_volume_plan.specs.passed.Names.{ShowsCommitted, HoldsCommitted, IsSectorOf, VolumeServes, NoneIsLeft, MarksLeft, CommitFault, IsSettled, LetsCommit, HasStated, HasCommitted, CommitEnds, NoDescriptor, NoPartition, IsHeldSince, IsOfCommand, Leaves, committing}
-use Rattle.lvm_volume_plan.proofs.passed.Names.{contains, of_map, volume_begins_in_session, volume_is_made_in_session, enters_one}
+use Rattle.lvm_volume_plan.specs.passed.Commit.{ShowsCommitted, HoldsCommitted, IsSectorOf, VolumeServes, NoneIsLeft, MarksLeft}
+use Rattle.lvm_volume_plan.specs.passed.Core.{CommitFault, IsSettled, LetsCommit, HasStated, HasCommitted, CommitEnds, NoDescriptor, NoPartition, IsHeldSince, IsOfCommand, Leaves, committing}
+use Rattle.lvm_volume_plan.proofs.passed.Commit.{contains, of_map, volume_begins_in_session, volume_is_made_in_session}
+use Rattle.lvm_volume_plan.proofs.passed.Core.{enters_one}
 use Rattle.lvm_volume_plan.specs.passed.CoreFaultCommitFault as commit
 use Rattle.lvm_session.specs.Judging.{copies_in}
 use Rattle.lvm_session.specs.State.{Core, State, is_there}

@@ -10,8 +10,10 @@ use Rattle.lvm_kept.specs.Contents.{contents_of}
 use Rattle.lvm_kept.specs.Moments.{Moment}
 use Rattle.lvm_steps.specs.Committing.{DiffersInVolume}
 use Rattle.lvm_steps.proofs.EnteringLemmas.{goes_in_span}
-use Rattle.lvm_volume_plan.specs.passed.Names.{VolumeServes, NoneIsLeft, MarksLeft, CommitFault, IsSettled, LetsCommit, HasStated, HasCommitted, CommitEnds, NoPartition, Leaves, committing}
-use Rattle.lvm_volume_plan.proofs.passed.Names.{one_place, volume_is_gone_in_session, enters_one}
+use Rattle.lvm_volume_plan.specs.passed.Commit.{VolumeServes, NoneIsLeft, MarksLeft}
+use Rattle.lvm_volume_plan.specs.passed.Core.{CommitFault, IsSettled, LetsCommit, HasStated, HasCommitted, CommitEnds, NoPartition, Leaves, committing}
+use Rattle.lvm_volume_plan.proofs.passed.Commit.{one_place, volume_is_gone_in_session}
+use Rattle.lvm_volume_plan.proofs.passed.Core.{enters_one}
 use Rattle.lvm_session.specs.State.{Core, State, is_there}
 use Rattle.lvm_num.specs.Descriptor.{IsValid, is_member, volume_of}
 use Rattle.lvm_volumes.specs.Endings.{StillHeld, KeepsFresh, commanding}

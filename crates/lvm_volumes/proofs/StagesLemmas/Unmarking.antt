@@ -12,8 +12,9 @@ use Rattle.lvm_vol.specs.Log.{Log}
 use Rattle.lvm_kept.specs.Group.{IsOneOf}
 use Rattle.lvm_core.specs.Committing.{MayGoClean, Redirties}
 use Rattle.lvm_even.proofs.Rows.{row_is_volume}
-use Rattle.lvm_volume_plan.proofs.passed.Names.{one_place}
-use Rattle.lvm_volume_plan.specs.passed.Names.{Always, CommitFault, HasSpareNumbers, HasStated, IsSettled, Leaves, MarkEnds, NoneIsLeft, NoPartition, dirtying, many_there}
+use Rattle.lvm_volume_plan.proofs.passed.Commit.{one_place}
+use Rattle.lvm_volume_plan.specs.passed.Core.{Always, CommitFault, HasSpareNumbers, HasStated, IsSettled, Leaves, MarkEnds, NoPartition, dirtying}
+use Rattle.lvm_volume_plan.specs.passed.Commit.{NoneIsLeft, many_there}
 use Rattle.lvm_session.specs.State.{Core, State}
 use Rattle.lvm_volume_plan.specs.Faults.{IfOn, command_answer}
 use Rattle.lvm_volume_plan.specs.PlannedVolume.{IsWithout}

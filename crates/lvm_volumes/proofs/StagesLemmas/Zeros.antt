@@ -14,8 +14,10 @@ use Rattle.lvm_disk.specs.Device.{Media, Device, IsReady, image_of}
 use Rattle.lvm_disk.specs.Steps.{BothTold}
 use Rattle.lvm_kept.specs.Plans.{Plan, ChangesBy}
 use Rattle.lvm_map.specs.FirstFit.{has_partition_on}
-use Rattle.lvm_volume_plan.specs.passed.Names.{KeepsShelf, IsSectorOf, CommitFault, with_one_out, IsZeroOf, IsZeroed, IsAsBefore, HasZeroed, ZeroEnds, NoDescriptor, Leaves}
-use Rattle.lvm_volume_plan.proofs.passed.Names.{darkened_then, given_up_then}
+use Rattle.lvm_volume_plan.specs.passed.Write.{KeepsShelf}
+use Rattle.lvm_volume_plan.specs.passed.Commit.{IsSectorOf}
+use Rattle.lvm_volume_plan.specs.passed.Core.{CommitFault, with_one_out, IsZeroOf, IsZeroed, IsAsBefore, HasZeroed, ZeroEnds, NoDescriptor, Leaves}
+use Rattle.lvm_volume_plan.proofs.passed.Write.{darkened_then, given_up_then}
 use Rattle.lvm_volume_plan.specs.passed.CoreFaultCommitFault as commit
 use Rattle.lvm_session.specs.State.{Core, State}
 use Rattle.lvm_session.specs.Dark.{all_dark}

@@ -4,7 +4,7 @@ use Rattle.lvm_num.specs.declared.descriptor.Descriptor.{Descriptor}
 use Rattle.lvm_num.specs.declared.status.Status.{Status}
 use Rattle.lvm_num.specs.Note.{Noted}
 use Rattle.lvm_num.specs.Record.{Stamped}
-use Rattle.lvm_steps.specs.passed.Names.{Fact}
+use Rattle.lvm_steps.specs.passed.Vol.{Fact}
 use Rattle.std.specs.Prelude.{List}
 use Rattle.lvm_disk.specs.Device.{Media, Image, Device, image_of, MayLeave}
 use Rattle.lvm_disk.specs.Paths.{DeviceStep, Path}

@@ -12,7 +12,8 @@ use Rattle.lvm_disk.specs.Steps.{Logs, BothTold, Cuts, CountsFailure, IsRecordRe
 use Rattle.lvm_disk.specs.Paths.{DeviceStep, Path}
 use Rattle.lvm_disk.proofs.PathsLemmas.{map-path, last-path}
 use Rattle.lvm_quorum.specs.passed.Transfer.{OnlyAdds, Plan, IsPlanned, IsOfRecord, IsOut, TransferGives, Rests, flight_of, Moved}
-use Rattle.lvm_quorum.proofs.passed.Names.{never, one_left, out_flights}
+use Rattle.lvm_quorum.proofs.passed.Kept.{never}
+use Rattle.lvm_quorum.proofs.passed.Transfer.{one_left, out_flights}
 use Rattle.lvm_quorum.specs.passed.TransferMovesMoved as moved
 use Rattle.lvm_write.specs.declared.write.SlotWrite.{SlotWrite}
 use Rattle.lvm_write.specs.Written.{IsWriting, IsInPlan}

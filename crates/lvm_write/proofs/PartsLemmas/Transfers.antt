@@ -7,7 +7,7 @@ use Rattle.lvm_disk.specs.Device.{Device, IsReady, image_of}
 use Rattle.lvm_disk.specs.Paths.{Here}
 use Rattle.lvm_quorum.specs.passed.Transfer.{Plan, ChangesBy, RecordWrite, IsOfRecord, Moved}
 use Rattle.lvm_quorum.specs.passed.TransferMovesMoved as moved
-use Rattle.lvm_quorum.proofs.passed.Names.{unheard_then}
+use Rattle.lvm_quorum.proofs.passed.Transfer.{unheard_then}
 use Rattle.lvm_write.specs.Written.{HasRoom, KeepsShelf, FreesAtMost, IsDarkened, IsGivenUp}
 use Rattle.lvm_write.specs.Parts.{PartsStand, CountsEnd, IfMoved, LeavesShelf, IfReturned, Spends, DoesPart, WritesPart}
 use Rattle.lvm_write.proofs.WrittenLemmas.Writing.{logs_none, logs_then, both_then, both_same, changes_then, changes_none, writing_here, moments_on, parts_stay, no_parts, parts_join}

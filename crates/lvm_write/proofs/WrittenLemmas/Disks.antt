@@ -10,7 +10,7 @@ use Rattle.lvm_num.specs.Record.{frame, record_sectors, slot_start}
 use Rattle.lvm_num.proofs.Booleans.{none_below}
 use Rattle.lvm_disk.specs.Device.{Media, Device, IsReady, image_of}
 use Rattle.lvm_quorum.specs.passed.Transfer.{ChangesBy, RecordWrite, IsOfRecord, StandsOn, Moved, Homes, second_slots, next_slot, Flips}
-use Rattle.lvm_quorum.proofs.passed.Names.{never}
+use Rattle.lvm_quorum.proofs.passed.Kept.{never}
 use Rattle.lvm_quorum.specs.passed.TransferMovesMoved as moved
 use Rattle.lvm_write.specs.declared.write.SlotWrite.{SlotWrite}
 use Rattle.lvm_write.specs.declared.write.Wrote.TheVariants as wrote

@@ -11,7 +11,7 @@ use Rattle.lvm_disk.specs.Steps.{BothTold, Logs}
 use Rattle.lvm_disk.specs.Paths.{DeviceStep, Path}
 use Rattle.lvm_disk.proofs.PathsLemmas.{append-path, map-path}
 use Rattle.lvm_quorum.specs.passed.Transfer.{OnlyAdds, Plan, ChangesBy, IsPlanned, RecordWrite, IsOfRecord}
-use Rattle.lvm_quorum.proofs.passed.Names.{then_disks, further}
+use Rattle.lvm_quorum.proofs.passed.Kept.{then_disks, further}
 use Rattle.lvm_write.specs.Written.{IsWriting, IsInPlan, LogsPlan}
 use Rattle.lvm_write.specs.Parts.{PartsStand}
 

@@ -1,5 +1,5 @@
 use Rattle.std.proofs.Common.{◌≡◌, ◌-◌, ◌+◌, ◌≤◌, ◌<◌, ◌||◌, ◌∙◌, ℕ, Bool, true, false, length, take, get_or, sym, ap, subst, refl, arith, List}
-use Rattle.lvm_vol.proofs.passed.Names.{or_false}
+use Rattle.lvm_vol.proofs.passed.Num.{or_false}
 use Rattle.lvm_vol.specs.declared.entry.Vol.{Vol}
 use Rattle.lvm_vol.specs.May.{known}
 use Rattle.lvm_allowed.specs.declared.row.Row.{Row}

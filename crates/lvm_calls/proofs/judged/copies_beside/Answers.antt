@@ -1,5 +1,5 @@
 use Rattle.std.proofs.Common.{sym}
-use Rattle.lvm_calls.proofs.passed.Names.{laid_out}
+use Rattle.lvm_calls.proofs.passed.Due.{laid_out}
 use Rattle.lvm_calls.proofs.judged.copies_beside.Goals as goal
 
 pub copies_of-requires-clause-map : goal.copies_of-requires-clause-map

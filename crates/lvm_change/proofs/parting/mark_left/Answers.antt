@@ -2,7 +2,7 @@ use Rattle.std.proofs.Common.{List, sym, subst}
 use Rattle.std.specs.Prelude.{All}
 use Rattle.lvm_num.specs.declared.descriptor.LvRow.{LvRow}
 use Rattle.lvm_num.specs.Descriptor.{partitions_in}
-use Rattle.lvm_status.specs.passed.Names.{HasMark}
+use Rattle.lvm_status.specs.passed.Status.{HasMark}
 use Rattle.lvm_commit.proofs.RoundsLemmas.Leaving.{all_markable}
 use Rattle.lvm_change.proofs.parting.mark_left.Goals as goal
 

@@ -11,7 +11,7 @@ use Rattle.lvm_num.specs.Descriptor.{is_member}
 use Rattle.lvm_num.specs.Disks.{Disks, has}
 use Rattle.lvm_num.specs.Status.{calls_missing}
 use Rattle.lvm_num.specs.StatusBytes.{status_bytes}
-use Rattle.lvm_status.specs.passed.Names.{has_row}
+use Rattle.lvm_status.specs.passed.Status.{has_row}
 use Rattle.lvm_status.specs.Update.{Stored}
 use Rattle.lvm_status.proofs.RunsLemmas.Sound.{and_left}
 use Rattle.lvm_commit.specs.Settling.{there, IsForgotten}

@@ -1,7 +1,7 @@
 use Rattle.std.proofs.Common.{sym, ◌∙◌, ap, subst}
 use Rattle.lvm_num.specs.declared.descriptor.Descriptor.{Descriptor}
 use Rattle.lvm_disk.specs.Device.{Device}
-use Rattle.lvm_commit.proofs.passed.Names.{spelled_is_read}
+use Rattle.lvm_commit.proofs.passed.Vgda.{spelled_is_read}
 use Rattle.lvm_commit.specs.Settling.{HoldsWithin, IsContentOf, IsOfCommit, CommitLeaves, MayCommit}
 use Rattle.lvm_core.proofs.CommittingLemmas.Committing.{may_next}
 use Rattle.lvm_session.specs.declared.session.Session.{Session}

@@ -9,7 +9,7 @@ use Rattle.lvm_core.proofs.CommittingLemmas.Buffers.{back_again}
 use Rattle.lvm_core.proofs.commit.zero.Goals as goal
 use Rattle.lvm_num.specs.declared.place.Pp.{Pp}
 use Rattle.lvm_disk.specs.Device.{Device}
-use Rattle.lvm_commit.specs.passed.Names.{Moved}
+use Rattle.lvm_commit.specs.passed.Transfer.{Moved}
 use Rattle.lvm_core.specs.Committing.{with_one_out}
 
 module _ (self taken : Session) (is : taken ≡ record self { pool = with_one_out self.pool }) where

@@ -1,7 +1,7 @@
 use Rattle.std.proofs.Common.{option_copied, sym, subst}
 use Rattle.lvm_session.specs.Fields.{core_of}
 use Rattle.lvm_session.specs.State.{Core}
-use Rattle.lvm_session_turn.specs.passed.Names.{IsDue}
+use Rattle.lvm_session_turn.specs.passed.Due.{IsDue}
 use Rattle.lvm_driver.proofs.CallsLemmas.{begun, refused, some}
 use Rattle.lvm_driver.proofs.dues.submit.Goals as goal
 

@@ -2,7 +2,7 @@ use Rattle.std.proofs.Common.{refl, sym, subst}
 use Rattle.lvm_session.specs.declared.answers.Taken.TheVariants as answer
 use Rattle.lvm_session.specs.Fields.{core_of}
 use Rattle.lvm_session.specs.State.{Core}
-use Rattle.lvm_session_turn.specs.passed.Names.{IsDue}
+use Rattle.lvm_session_turn.specs.passed.Due.{IsDue}
 use Rattle.lvm_driver.proofs.CallsLemmas.{left, other_taken, stayed}
 use Rattle.lvm_driver.proofs.dues.take.Goals as goal
 

@@ -5,7 +5,7 @@ use Rattle.lvm_num.specs.Descriptor.{IsPartitionOf, is_pp}
 use Rattle.lvm_num.specs.Disks.{has}
 use Rattle.lvm_session.specs.Fields.{core_of}
 use Rattle.lvm_session.specs.Judging.{copies_in, is_usable}
-use Rattle.lvm_due.proofs.passed.Names.{copies_in_are, place_of}
+use Rattle.lvm_due.proofs.passed.Due.{copies_in_are, place_of}
 use Rattle.lvm_due.specs.Plain.{is_source}
 use Rattle.lvm_due.proofs.Steps.{find_left, found_here, found_later, found_none, index_same}
 use Rattle.lvm_due.proofs.source.next_source.Goals as goal

@@ -1,6 +1,6 @@
 use Rattle.std.proofs.Common.{sym, ◌∙◌, ap}
 use Rattle.lvm_due.proofs.DescriptorLemmas.Laid.{laid_out}
-use Rattle.lvm_session.specs.passed.Names.{lv_of}
+use Rattle.lvm_session.specs.passed.Path.{lv_of}
 use Rattle.lvm_num.specs.Descriptor.{volume_of}
 use Rattle.lvm_due.proofs.standing.copies_for.Goals as goal
 

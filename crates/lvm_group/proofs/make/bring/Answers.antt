@@ -3,7 +3,8 @@ use Rattle.std.specs.Prelude.{IfOk, IfErr}
 use Rattle.std.proofs.lemmas.Result.{err_from_is_err_and}
 use Rattle.lvm_vol.specs.Log.{Log, spare_entries}
 use Rattle.lvm_rec.specs.declared.homes.Homes.{Homes}
-use Rattle.lvm_group.specs.passed.Names.{BringsOn, StartsHeld, first_core, Cause}
+use Rattle.lvm_group.specs.passed.Core.{BringsOn, StartsHeld, Cause}
+use Rattle.lvm_group.specs.passed.SessionStart.{first_core}
 use Rattle.lvm_group.specs.NewGroup.{NewGroup}
 use Rattle.lvm_group.specs.Planned.{IsPlannedFor}
 use Rattle.lvm_group.specs.Made.{MkvgRefuses}

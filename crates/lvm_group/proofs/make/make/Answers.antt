@@ -6,7 +6,8 @@ use Rattle.lvm_steps.specs.Requests.{at}
 use Rattle.lvm_steps.proofs.MomentsLemmas.Spans.{keeps_still}
 use Rattle.lvm_steps.proofs.LawsLemmas.Clock.{all_is_behind_next}
 use Rattle.lvm_write.proofs.PartsLemmas.Transfers.{spends_none}
-use Rattle.lvm_group.specs.passed.Names.{Cause, StartsHeld, Parts, first_core}
+use Rattle.lvm_group.specs.passed.Core.{Cause, StartsHeld}
+use Rattle.lvm_group.specs.passed.SessionStart.{Parts, first_core}
 use Rattle.lvm_group.specs.declared.make.Standing.{Standing}
 use Rattle.lvm_group.specs.NewGroup.{NewGroup}
 use Rattle.lvm_group.specs.Planned.{IsPlannedFor, RefusesPlan}

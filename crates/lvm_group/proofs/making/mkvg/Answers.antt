@@ -1,7 +1,9 @@
 use Rattle.std.proofs.Common.{sym, subst}
 use Rattle.lvm_vol.specs.Log.{Log}
 use Rattle.lvm_steps.specs.Requests.{at}
-use Rattle.lvm_group.specs.passed.Names.{Core, AreFaults, StartsHeld, BringsOn}
+use Rattle.lvm_group.specs.passed.Session.{Core}
+use Rattle.lvm_group.specs.passed.SessionStart.{AreFaults}
+use Rattle.lvm_group.specs.passed.Core.{StartsHeld, BringsOn}
 use Rattle.lvm_group.specs.NewGroup.{NewGroup}
 use Rattle.lvm_group.specs.Made.{IsMade}
 use Rattle.lvm_group.specs.Steps.{RecordsStand}

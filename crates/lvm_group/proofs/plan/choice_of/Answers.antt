@@ -5,7 +5,7 @@ use Rattle.lvm_num.specs.declared.status.Status.{Status}
 use Rattle.lvm_num.specs.Descriptor.{IsValid}
 use Rattle.lvm_num.specs.Disks.{Disks, has}
 use Rattle.lvm_num.specs.Status.{IsValidStatus}
-use Rattle.lvm_core.specs.passed.Names.{IsOneGroup}
+use Rattle.lvm_core.specs.passed.SessionStart.{IsOneGroup}
 use Rattle.lvm_group.specs.NewGroup.{among, clear_row, disks_in_order, descriptor_for, status_for}
 use Rattle.lvm_group.proofs.NewGroupLemmas.Groups.{is_there, are_members, valid_group, valid_status, one_group, there_among}
 use Rattle.lvm_group.proofs.plan.choice_of.Goals as goal

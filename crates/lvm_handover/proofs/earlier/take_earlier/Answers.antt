@@ -3,7 +3,7 @@ use Rattle.lvm_session.specs.Fields.{core_of}
 use Rattle.lvm_session.specs.Sound.{IsSound}
 use Rattle.lvm_session.specs.State.{Core, state}
 use Rattle.lvm_going.specs.Frames.{is_moving}
-use Rattle.lvm_ranges.specs.passed.Names.{AreAnswered}
+use Rattle.lvm_ranges.specs.passed.Posts.{AreAnswered}
 use Rattle.lvm_handover.specs.Earlier.{AreGone}
 use Rattle.lvm_handover.proofs.EarlierLemmas.Running.{stays}
 use Rattle.lvm_handover.proofs.earlier.take_earlier.Goals as goal

@@ -3,7 +3,7 @@ use Rattle.std.specs.Option.{option_map_or}
 use Rattle.lvm_session.specs.declared.bringing.OpenCopy.{OpenCopy}
 use Rattle.lvm_session.specs.Fields.{core_of}
 use Rattle.lvm_session.specs.State.{Core, state}
-use Rattle.lvm_handover.specs.passed.Names.{IsSoundAtRest}
+use Rattle.lvm_handover.specs.passed.Core.{IsSoundAtRest}
 use Rattle.lvm_handover.proofs.SettlingLemmas.Resting.{is_between, is_settled}
 use Rattle.lvm_handover.proofs.handover.settle.Goals as goal
 

@@ -1,4 +1,4 @@
-use Rattle.lvm_driver.proofs.passed.Names.{runs_none}
+use Rattle.lvm_driver.proofs.passed.Going.{runs_none}
 use Rattle.lvm_session.specs.State.{state_of}
 use Rattle.std.proofs.Common.{get_or, refl, ap}
 use Rattle.std.proofs.lemmas.List.{set-get_or}

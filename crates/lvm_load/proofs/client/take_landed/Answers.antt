@@ -1,5 +1,5 @@
 use Rattle.lvm_session.specs.State.{state_of}
-use Rattle.lvm_driver.proofs.passed.Names.{runs_both, runs_none}
+use Rattle.lvm_driver.proofs.passed.Going.{runs_both, runs_none}
 use Rattle.lvm_load.specs.Weaving.{NextClient, NoClient}
 use Rattle.lvm_load.proofs.client.take_landed.Goals as goal
 

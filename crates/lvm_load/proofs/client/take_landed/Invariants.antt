@@ -1,5 +1,5 @@
 use Rattle.lvm_session.specs.State.{state_of}
-use Rattle.lvm_driver.specs.passed.Names.{RunsOn}
+use Rattle.lvm_driver.specs.passed.Going.{RunsOn}
 use Rattle.lvm_load.specs.Weaving.{TakesEach}
 use Rattle.lvm_load.proofs.client.take_landed.Given as goal
 

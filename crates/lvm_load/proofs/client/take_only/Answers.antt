@@ -1,6 +1,6 @@
 use Rattle.std.proofs.Common.{◌≡◌, ◌+◌, ℕ, length, subst, arith}
 use Rattle.lvm_session.specs.State.{state_of}
-use Rattle.lvm_driver.proofs.passed.Names.{runs_both, runs_none}
+use Rattle.lvm_driver.proofs.passed.Going.{runs_both, runs_none}
 use Rattle.lvm_load.specs.Weaving.{NextClient, NoClient, TakesEach}
 use Rattle.lvm_load.proofs.WaitingLemmas.Others.{all_wait, others_left}
 use Rattle.lvm_load.proofs.client.take_only.Goals as goal

@@ -1,6 +1,6 @@
 use Rattle.std.proofs.Common.{◌≤◌, ◌-◌, length}
 use Rattle.lvm_session.specs.State.{state_of}
-use Rattle.lvm_driver.specs.passed.Names.{RunsOn}
+use Rattle.lvm_driver.specs.passed.Going.{RunsOn}
 use Rattle.lvm_load.specs.Waiting.{AreWaitingBut}
 use Rattle.lvm_load.specs.Weaving.{TakesEach}
 use Rattle.lvm_load.proofs.client.take_only.Given as goal

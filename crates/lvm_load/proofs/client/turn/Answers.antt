@@ -5,7 +5,7 @@ use Rattle.lvm_vol.specs.Log.{Log}
 use Rattle.lvm_session.specs.Left.{left_of}
 use Rattle.lvm_keeps_events.specs.Turning.{is_last}
 use Rattle.lvm_session.specs.State.{state_of}
-use Rattle.lvm_driver.proofs.passed.Names.{runs_both}
+use Rattle.lvm_driver.proofs.passed.Going.{runs_both}
 use Rattle.lvm_load.specs.Waiting.{OthersWait}
 use Rattle.lvm_load.specs.Weaving.{TakesWhere, idle_after, might_have_landed, turns_left}
 use Rattle.lvm_load.proofs.WeavingLemmas.{landed_leaves, shrinks, turn_leaves}

@@ -1,6 +1,6 @@
 use Rattle.std.proofs.Common.{◌∙◌, sym, refl}
 use Rattle.lvm_session.specs.State.{state_of}
-use Rattle.lvm_driver.proofs.passed.Names.{runs_none}
+use Rattle.lvm_driver.proofs.passed.Going.{runs_none}
 use Rattle.lvm_load.specs.Bringing.{StillRuns}
 use Rattle.lvm_load.proofs.serve.close_ended.Goals as goal
 

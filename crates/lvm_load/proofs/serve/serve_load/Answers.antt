@@ -2,7 +2,7 @@ use Rattle.std.proofs.Common.{ℕ, length, ◌∙◌, ap, ap₂}
 use Rattle.lvm_vol.specs.Log.{Log}
 use Rattle.lvm_session.specs.State.{state_of}
 use Rattle.lvm_load.specs.Totals.{entries_since, totals_of}
-use Rattle.lvm_driver.proofs.passed.Names.{goes_any}
+use Rattle.lvm_driver.proofs.passed.Going.{goes_any}
 use Rattle.lvm_load.proofs.LendingLemmas.Keeping.{keeps_both, keeps_runs, unstuck_still}
 use Rattle.lvm_load.proofs.SettlingLemmas.{loaded_some}
 use Rattle.lvm_load.proofs.serve.serve_load.Goals as goal

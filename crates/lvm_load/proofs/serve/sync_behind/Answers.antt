@@ -1,6 +1,6 @@
 use Rattle.std.proofs.Common.{true, refl}
 use Rattle.lvm_session.specs.State.{state_of}
-use Rattle.lvm_driver.proofs.passed.Names.{goes_any}
+use Rattle.lvm_driver.proofs.passed.Going.{goes_any}
 use Rattle.lvm_load.proofs.LendingLemmas.Keeping.{keeps_both, keeps_brought, keeps_runs, unstuck_still}
 use Rattle.lvm_load.proofs.serve.sync_behind.Goals as goal
 

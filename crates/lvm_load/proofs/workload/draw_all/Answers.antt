@@ -1,6 +1,6 @@
 use Rattle.std.proofs.Common.{◌≡◌, ◌+◌, Bool, true, false, ℕ, Option, refl, sym, ◌∙◌, subst, arith}
 use Rattle.lvm_session.specs.State.{state_of}
-use Rattle.lvm_driver.proofs.passed.Names.{path_frames, runs_both}
+use Rattle.lvm_driver.proofs.passed.Going.{path_frames, runs_both}
 use Rattle.lvm_load.specs.Weaving.{Draws, NamesNext, NoneDrawn, OneDrawn, Unheard, weaving}
 use Rattle.lvm_load.proofs.WeavingLemmas.{and_then, at_first}
 use Rattle.lvm_load.proofs.WaitingLemmas.Waiting.{asks_wait, named_free}

@@ -1,7 +1,7 @@
 use Rattle.std.proofs.Common.{sym, ◌∙◌}
 use Rattle.std.proofs.lemmas.Bool.{lt-leb}
 use Rattle.lvm_session.specs.State.{state_of}
-use Rattle.lvm_driver.proofs.passed.Names.{path_frames}
+use Rattle.lvm_driver.proofs.passed.Going.{path_frames}
 use Rattle.lvm_load.specs.Weaving.{NoTurn, OneTurn}
 use Rattle.lvm_load.proofs.WeavingLemmas.{and_then, at_first, turn_bound}
 use Rattle.lvm_load.proofs.WaitingLemmas.Waiting.{turn_waits}

@@ -3,7 +3,7 @@ use Rattle.std.proofs.lemmas.Bool.{lt-leb}
 use Rattle.std.proofs.lemmas.Nat.{mod_below}
 use Rattle.rand_pcg.specs.Lcg.{Lcg}
 use Rattle.lvm_session.specs.State.{state_of}
-use Rattle.lvm_driver.proofs.passed.Names.{path_frames}
+use Rattle.lvm_driver.proofs.passed.Going.{path_frames}
 use Rattle.lvm_load.specs.Weaving.{NoWord, OneWord, open_of, weaving}
 use Rattle.lvm_load.proofs.WeavingLemmas.{and_then, at_first, turn_bound}
 use Rattle.lvm_load.proofs.WaitingLemmas.Waiting.{turn_waits}

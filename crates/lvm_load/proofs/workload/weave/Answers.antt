@@ -2,7 +2,7 @@ use Rattle.std.proofs.Common.{ℕ, ◌≤◌, List, length, sym, ◌∙◌, ap, 
 use Rattle.std.proofs.lemmas.List.{length-replicate, take-replicate}
 use Rattle.rand_pcg.specs.Lcg.{Lcg}
 use Rattle.lvm_session.specs.State.{state_of}
-use Rattle.lvm_driver.proofs.passed.Names.{path_frames, runs_both, stays_unstuck}
+use Rattle.lvm_driver.proofs.passed.Going.{path_frames, runs_both, stays_unstuck}
 use Rattle.lvm_load.specs.declared.client.Client.{Client}
 use Rattle.lvm_vol.specs.Log.{Log}
 use Rattle.lvm_load.specs.Totals.{entries_since, totals_of}

@@ -4,7 +4,7 @@ use Rattle.lvm_path.specs.Asks.{lv_of}
 use Rattle.lvm_session.specs.Fields.{core_of}
 use Rattle.lvm_session.specs.State.{state}
 use Rattle.lvm_session.specs.Events.{admitted_as, last_after, makes_dirty}
-use Rattle.lvm_due.proofs.passed.Names.{numbered}
+use Rattle.lvm_due.proofs.passed.Due.{numbered}
 use Rattle.lvm_due.proofs.Nexts.{one}
 use Rattle.lvm_due.proofs.AtPlaces.{read_same, stands}
 use Rattle.lvm_moves.proofs.EventsLemmas.{admission_is}

@@ -9,7 +9,7 @@ use Rattle.lvm_session.specs.Fields.{core_of}
 use Rattle.lvm_session.specs.Judging.{copies_for, is_caught, is_usable, lp_of}
 use Rattle.lvm_session.specs.State.{state}
 use Rattle.lvm_session.specs.Events.{target_at}
-use Rattle.lvm_due.proofs.passed.Names.{copies_in_are, few_in}
+use Rattle.lvm_due.proofs.passed.Due.{copies_in_are, few_in}
 use Rattle.lvm_moves.proofs.ChoosingLemmas.{aim_there, aims_more, few_aims, index_same}
 use Rattle.lvm_moves.proofs.aiming.copy_aims.Goals as goal
 

@@ -6,7 +6,7 @@ use Rattle.lvm_sched.specs.Reads.{AreCopies}
 use Rattle.lvm_path.specs.Asks.{lv_of}
 use Rattle.lvm_session.specs.Fields.{core_of}
 use Rattle.lvm_session.specs.Judging.{lp_of}
-use Rattle.lvm_due.proofs.passed.Names.{copies_in_are, few_in, numbered}
+use Rattle.lvm_due.proofs.passed.Due.{copies_in_are, few_in, numbered}
 use Rattle.lvm_moves.specs.Choosing.{IsCopyThere}
 use Rattle.lvm_moves.proofs.ChoosingLemmas.{usable_there}
 use Rattle.lvm_session.proofs.EventsLemmas.{copies_are, order_holds, usable_holds}

@@ -3,7 +3,8 @@ use Rattle.std.proofs.lemmas.Result.{err_from_is_err_and}
 use Rattle.lvm_num.specs.declared.record.Kind.TheVariants as kind
 use Rattle.lvm_num.specs.DescriptorBytes.{descriptor_of}
 use Rattle.lvm_num.specs.Record.{joined}
-use Rattle.lvm_transfer.specs.passed.Names.{held, Media}
+use Rattle.lvm_transfer.specs.passed.Rec.{held}
+use Rattle.lvm_transfer.specs.passed.Disk.{Media}
 use Rattle.lvm_transfer.proofs.ReadingLemmas.Following.{reads_then, told_before}
 use Rattle.lvm_quorum.specs.Reading.{stamped_found}
 use Rattle.lvm_quorum.proofs.SlotsLemmas.{latest_is}

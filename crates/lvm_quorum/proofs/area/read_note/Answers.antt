@@ -1,6 +1,6 @@
 use Rattle.std.proofs.Common.{◌≡◌, ◌∙◌}
 use Rattle.lvm_num.specs.Record.{joined}
-use Rattle.lvm_transfer.specs.passed.Names.{Media}
+use Rattle.lvm_transfer.specs.passed.Disk.{Media}
 use Rattle.lvm_transfer.proofs.RecordLemmas.{joined-one, told-more}
 use Rattle.lvm_quorum.proofs.area.read_note.Goals as goal
 

@@ -2,7 +2,7 @@ use Rattle.std.proofs.Common.{◌≡◌, Some, slice_index_or, refl, sym, ◌∙
 use Rattle.lvm_quorum.specs.passed.Transfer.{Media, image_of, Here}
 use Rattle.lvm_quorum.specs.Surveyed.{IsRead}
 use Rattle.lvm_quorum.specs.Reading.{IsArea}
-use Rattle.lvm_quorum.proofs.passed.Names.{or_got, told-always, told-more, only_none, rested_none, stop_of}
+use Rattle.lvm_quorum.proofs.passed.Transfer.{or_got, told-always, told-more, only_none, rested_none, stop_of}
 use Rattle.lvm_quorum.proofs.SurveyedLemmas.DiskRows.{empty_is_read, small_has_none, area_is_read, large_has, not_small}
 use Rattle.lvm_quorum.proofs.survey.survey_disk.Goals as goal
 

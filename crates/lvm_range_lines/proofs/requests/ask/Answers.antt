@@ -1,7 +1,7 @@
 use Rattle.std.proofs.Common.{refl, ap, subst}
 use Rattle.std.specs.Prelude.{Result, Err}
 use Rattle.lvm_num.specs.declared.descriptor.Descriptor.{Descriptor}
-use Rattle.lvm_group_lines.specs.passed.Names.{HasNoVolumeNamed, IsNumberOf}
+use Rattle.lvm_group_lines.specs.passed.Core.{HasNoVolumeNamed, IsNumberOf}
 use Rattle.lvm_posts.specs.declared.asked.Asked.{Asked}
 use Rattle.lvm_group_lines.specs.passed.Ranges.{AskRangeFault, AskRangeGives}
 use Rattle.lvm_group_lines.proofs.passed.Tie.{runs_none}

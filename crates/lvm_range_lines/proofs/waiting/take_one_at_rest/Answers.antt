@@ -8,7 +8,7 @@ use Rattle.lvm_session.specs.Sound.{IsSound}
 use Rattle.lvm_session.specs.State.{Core, state, state_of}
 use Rattle.lvm_group_lines.specs.passed.Tie.{RunsOn}
 use Rattle.lvm_group_lines.specs.passed.Handover.{with_taken}
-use Rattle.lvm_group_lines.specs.passed.Names.{IsSoundAtRest}
+use Rattle.lvm_group_lines.specs.passed.Core.{IsSoundAtRest}
 use Rattle.lvm_posts.specs.Deciding.{RangeEnds}
 use Rattle.lvm_posts.specs.Posts.{AreAnswered}
 use Rattle.lvm_group_lines.proofs.passed.Handover.{resting_with, stays_beside}

@@ -1,5 +1,5 @@
 use Rattle.std.proofs.Common.{refl, sym}
-use Rattle.lvm_driver.proofs.passed.Names.{runs_none}
+use Rattle.lvm_driver.proofs.passed.Going.{runs_none}
 use Rattle.lvm_session.specs.State.{state_of}
 use Rattle.lvm_ranges.proofs.PiecesLemmas.{gives_asked, gives_fault}
 use Rattle.lvm_ranges.proofs.ask.ask_range.Goals as goal

@@ -1,5 +1,5 @@
 use Rattle.std.proofs.Common.{◌+◌, refl, ◌∙◌, ap}
-use Rattle.lvm_driver.proofs.passed.Names.{runs_both, runs_none}
+use Rattle.lvm_driver.proofs.passed.Going.{runs_both, runs_none}
 use Rattle.lvm_session.specs.State.{state_of}
 use Rattle.lvm_ranges.proofs.PiecesLemmas.{all_asked, asks_first, asks_next, may_next}
 use Rattle.lvm_ranges.proofs.ask.submit_pieces.Goals as goal

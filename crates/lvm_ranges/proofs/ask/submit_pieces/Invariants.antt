@@ -1,5 +1,5 @@
 use Rattle.std.proofs.Common.{◌≡◌, ◌≤◌, ◌-◌, vec_capacity}
-use Rattle.lvm_driver.specs.passed.Names.{RunsOn}
+use Rattle.lvm_driver.specs.passed.Going.{RunsOn}
 use Rattle.lvm_session.specs.State.{state_of}
 use Rattle.lvm_ranges.proofs.PiecesLemmas.{AskedSoFar}
 use Rattle.lvm_ranges.proofs.ask.submit_pieces.Given as goal

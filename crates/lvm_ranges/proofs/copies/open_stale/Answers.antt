@@ -3,7 +3,7 @@ use Rattle.std.proofs.lemmas.Result.{err_from_is_err_and}
 use Rattle.lvm_session.specs.declared.answers.CopyFault.{CopyFault}
 use Rattle.lvm_session.specs.State.{Core, State, state_of}
 use Rattle.lvm_session.specs.Left.{left_of}
-use Rattle.lvm_ranges.specs.passed.Names.{counts_seen}
+use Rattle.lvm_ranges.specs.passed.Calls.{counts_seen}
 use Rattle.lvm_ranges.specs.Passing.{EndsOr, IsJudged, EndsAtCopy, copy_of}
 use Rattle.lvm_ranges.specs.Turning.{GoesBeside, IsUnderWay}
 use Rattle.lvm_ranges.proofs.PassingLemmas.Judging.{answers, begins, beside_then, broken_off, may_refuse, opens, same_state, turned, under_way}

@@ -1,6 +1,6 @@
 use Rattle.std.proofs.Common.{inl, arith}
 use Rattle.lvm_session.specs.State.{state_of}
-use Rattle.lvm_driver.proofs.passed.Names.{path_frames}
+use Rattle.lvm_driver.proofs.passed.Going.{path_frames}
 use Rattle.lvm_ranges.proofs.LandingLemmas.{costs_at_end, costs_nothing, goes, landed_at_end, less_by_move, less_by_wait, one_move, one_wait, turns_leave}
 use Rattle.lvm_ranges.proofs.landing.await_range.Goals as goal
 

@@ -1,4 +1,4 @@
-use Rattle.lvm_ranges.proofs.passed.Names.{path_shape}
+use Rattle.lvm_ranges.proofs.passed.Going.{path_shape}
 use Rattle.std.proofs.Common.{◌≡◌, ap, sym, ◌∙◌, arith}
 use Rattle.std.proofs.lemmas.Result.{err_from_is_err_and}
 use Rattle.lvm_num.specs.declared.descriptor.Descriptor.{Descriptor}

@@ -1,4 +1,4 @@
-use Rattle.lvm_ranges.proofs.passed.Names.{path_shape}
+use Rattle.lvm_ranges.proofs.passed.Going.{path_shape}
 use Rattle.std.proofs.Common.{◌≡◌, Option, ap, sym, ◌∙◌, arith}
 use Rattle.std.specs.Option.{option_map_or}
 use Rattle.std.proofs.lemmas.Result.{err_from_is_err_and}

@@ -1,8 +1,8 @@
 use Rattle.std.proofs.Common.{refl, sym, subst}
 use Rattle.lvm_disk.specs.Device.{Device}
-use Rattle.lvm_driver.specs.passed.Names.{Spends}
+use Rattle.lvm_driver.specs.passed.Write.{Spends}
 use Rattle.lvm_session.specs.State.{state_of}
-use Rattle.lvm_driver.proofs.passed.Names.{runs_both}
+use Rattle.lvm_driver.proofs.passed.Going.{runs_both}
 use Rattle.lvm_ranges.specs.Finishing.{Finished, TakesBehind, TakesNone, WasStuck}
 use Rattle.lvm_ranges.proofs.KeepingLemmas.Finishing.{others_stay, others_then, still_held}
 use Rattle.lvm_ranges.proofs.taking.finish_range.Goals as goal

@@ -1,5 +1,5 @@
 use Rattle.std.proofs.Common.{sym, subst}
-use Rattle.lvm_keeps.specs.passed.Names.{Core, state, IsSound}
+use Rattle.lvm_keeps.specs.passed.Session.{Core, state, IsSound}
 use Rattle.lvm_session_start.proofs.EntriesLemmas.{is_sound}
 use Rattle.lvm_session_start.proofs.begin.begin_session.Goals as goal
 

@@ -1,6 +1,6 @@
 use Rattle.std.proofs.Common.{false, length, ◌∙◌, ap, arith}
 use Rattle.std.proofs.lemmas.List.{length-replicate}
-use Rattle.lvm_keeps.specs.passed.Names.{Core}
+use Rattle.lvm_keeps.specs.passed.Session.{Core}
 use Rattle.lvm_session_start.proofs.begin.first_session.Goals as goal
 
 pub returns-clause-rooms : goal.returns-clause-rooms

@@ -8,7 +8,7 @@ use Rattle.lvm_session.specs.Ends.{learned}
 use Rattle.lvm_session.specs.Marks.{Entails}
 use Rattle.lvm_calls.specs.Due.{MayMark}
 use Rattle.lvm_calls.specs.Ending.{MayEndCopy}
-use Rattle.lvm_moves.proofs.passed.Names.{read_same}
+use Rattle.lvm_moves.proofs.passed.Due.{read_same}
 use Rattle.lvm_session_turn.proofs.EndedLemmas.{its_target, its_there, may_end, may_mark, stands}
 use Rattle.lvm_session_turn.proofs.Ended.{is_out, within}
 use Rattle.lvm_session_turn.proofs.data.end_data.Goals as goal

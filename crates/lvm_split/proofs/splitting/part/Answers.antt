@@ -1,7 +1,7 @@
 use Rattle.std.proofs.Common.{ℕ, List, ◌∷◌, [], take, Ok, Err}
 use Rattle.std.proofs.lemmas.Result.{err_from_is_err_and}
 use Rattle.lvm_session.specs.State.{State}
-use Rattle.lvm_volume_plan.specs.passed.Names.{state_of, CommitFault, HasStated}
+use Rattle.lvm_volume_plan.specs.passed.Core.{state_of, CommitFault, HasStated}
 use Rattle.lvm_volume_plan.specs.declared.fault.GroupFault.{GroupFault}
 use Rattle.lvm_volume_plan.specs.declared.split.SplitPlan.{SplitPlan}
 use Rattle.lvm_volume_plan.specs.PlannedSplit.{IsPlannedSplit}

@@ -1,5 +1,5 @@
 use Rattle.std.proofs.Common.{◌≡◌, ◌++◌, [], slice_index_or}
-use Rattle.lvm_disk.specs.passed.Names.{joined}
+use Rattle.lvm_disk.specs.passed.Num.{joined}
 use Rattle.lvm_disk.specs.Device.{Media}
 use Rattle.lvm_transfer.proofs.RecordLemmas.{append-same, told-more}
 use Rattle.lvm_transfer.proofs.reading.append_piece.Goals as goal

@@ -1,7 +1,7 @@
 use Rattle.std.proofs.Common.{◌≡◌, ◌+◌, ◌++◌, ℕ, IfSome, Ok, Err, append-nil, min, sym, ◌∙◌, ap, subst, arith}
 use Rattle.std.proofs.lemmas.Result.{err_from_is_err_and}
-use Rattle.lvm_disk.specs.passed.Names.{joined}
-use Rattle.lvm_kept.proofs.passed.Names.{joined-none}
+use Rattle.lvm_disk.specs.passed.Num.{joined}
+use Rattle.lvm_kept.proofs.passed.Rec.{joined-none}
 use Rattle.lvm_disk.specs.Device.{Media}
 use Rattle.lvm_transfer.proofs.RecordLemmas.{kept-so-far, told-both, told-always}
 use Rattle.lvm_transfer.specs.Reading.{NoneYet, OneMore}

@@ -1,5 +1,5 @@
 use Rattle.std.proofs.Common.{◌-◌, ◌≡◌, ◌+◌, ◌*◌, ◌++◌, ◌≤◌, Ok, length, min, IfSome}
-use Rattle.lvm_disk.specs.passed.Names.{joined}
+use Rattle.lvm_disk.specs.passed.Num.{joined}
 use Rattle.lvm_transfer.specs.Reading.{ReadsEnd, ReadSoFar}
 use Rattle.lvm_transfer.proofs.reading.append_sectors.Given as goal
 

@@ -1,7 +1,7 @@
 use Rattle.std.proofs.Common.{◌≡◌, ◌-◌, ◌++◌, ◌∙◌, ℕ, List, Ok, Err, max, min, ap, subst, arith}
 use Rattle.std.proofs.lemmas.Result.{err_from_is_err_and}
 use Rattle.lvm_disk.specs.passed.NumRecordKind as kind
-use Rattle.lvm_disk.specs.passed.Names.{joined, record_in, record_sectors}
+use Rattle.lvm_disk.specs.passed.Num.{joined, record_in, record_sectors}
 use Rattle.lvm_disk.specs.Device.{Media}
 use Rattle.lvm_transfer.specs.declared.reading.Extent.{Extent}
 use Rattle.lvm_transfer.specs.Reading.{announced_length, ReadsEnd, SectorsRead}

@@ -8,7 +8,7 @@ use Rattle.lvm_status.specs.Members.{HasItsRows}
 use Rattle.lvm_status.specs.Update.{Stored, members_there}
 use Rattle.lvm_write.specs.Written.{written_well}
 use Rattle.lvm_commit.specs.Settling.{IsOf, MayCommit}
-use Rattle.lvm_session_start.specs.passed.Names.{IsOut}
+use Rattle.lvm_session_start.specs.passed.Pbuf.{IsOut}
 use Rattle.lvm_mwc.specs.Cache.{flight_on}
 use Rattle.lvm_turnover.specs.Turning.{core_after, unreached}
 use Rattle.lvm_session.specs.Dark.{all_dark}

@@ -3,8 +3,8 @@ use Rattle.lvm_num.specs.Descriptor.{IsValid}
 use Rattle.lvm_num.specs.Disks.{has}
 use Rattle.lvm_num.specs.Status.{IsValidStatus}
 use Rattle.lvm_quorum.specs.declared.choice.Choice.{Choice}
-use Rattle.lvm_core.specs.passed.Names.{IsOneGroup}
-use Rattle.lvm_varyon.proofs.passed.Names.{left_dirty_valid}
+use Rattle.lvm_core.specs.passed.SessionStart.{IsOneGroup}
+use Rattle.lvm_varyon.proofs.passed.Recovery.{left_dirty_valid}
 use Rattle.lvm_varyon.proofs.plan.last_for.Goals as goal
 
 pub second_bytes-requires : goal.second_bytes-requires

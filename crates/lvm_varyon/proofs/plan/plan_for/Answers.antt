@@ -4,7 +4,7 @@ use Rattle.lvm_num.specs.declared.record.Stamp.{Stamp}
 use Rattle.lvm_num.specs.Descriptor.{IsValid}
 use Rattle.lvm_num.specs.Status.{IsValidStatus}
 use Rattle.lvm_quorum.specs.declared.choice.Choice.{Choice}
-use Rattle.lvm_core.specs.passed.Names.{IsOneGroup}
+use Rattle.lvm_core.specs.passed.SessionStart.{IsOneGroup}
 use Rattle.lvm_varyon.specs.Planned.{IsPlanOfChoice}
 use Rattle.lvm_varyon.proofs.PlannedLemmas.{planned_for}
 use Rattle.lvm_varyon.proofs.plan.plan_for.Goals as goal

@@ -8,7 +8,8 @@ use Rattle.lvm_varyon.proofs.vary.bring.Goals as goal
 use Rattle.lvm_write.specs.Parts.{Spends}
 use Rattle.lvm_write.proofs.PartsLemmas.Transfers.{spends_then}
 use Rattle.lvm_rec.specs.declared.homes.Homes.{Homes}
-use Rattle.lvm_varyon.specs.passed.Names.{Parts, Cause}
+use Rattle.lvm_varyon.specs.passed.SessionStart.{Parts}
+use Rattle.lvm_varyon.specs.passed.Core.{Cause}
 use Rattle.lvm_varyon.specs.Copied.{all_copies}
 use Rattle.lvm_varyon.specs.Parts.{IsPlannedBy, plan_beginning}
 use Rattle.lvm_varyon.specs.Varied.{BringGives}

@@ -4,7 +4,8 @@ use Rattle.lvm_disk.specs.Paths.{Here}
 use Rattle.lvm_vol.specs.Log.{Log, spare_entries}
 use Rattle.lvm_steps.proofs.LawsLemmas.Clock.{all_is_behind_next}
 use Rattle.lvm_write.proofs.PartsLemmas.Transfers.{spends_none}
-use Rattle.lvm_varyon.specs.passed.Names.{AreFaults, BringsOn, StartsHeld}
+use Rattle.lvm_varyon.specs.passed.SessionStart.{AreFaults}
+use Rattle.lvm_varyon.specs.passed.Core.{BringsOn, StartsHeld}
 use Rattle.lvm_varyon.specs.passed.CoreRefusedCause as cause
 use Rattle.lvm_varyon.specs.Varied.{ComesOn, DirtyAreEqual, IsRecovered, VaryonRefuses}
 use Rattle.lvm_varyon.proofs.VariedLemmas.Refusing.{refused_gives, refuses_so, some_spare}

@@ -2,7 +2,7 @@ use Rattle.std.proofs.Common.{List, ℕ, subst, sym}
 use Rattle.std.specs.Prelude.{All}
 use Rattle.std.proofs.lemmas.Result.{err_from_is_err_and}
 use Rattle.lvm_write.proofs.PartsLemmas.Transfers.{spends_then, still_room}
-use Rattle.lvm_varyon.specs.passed.Names.{MayCopy}
+use Rattle.lvm_varyon.specs.passed.Recovery.{MayCopy}
 use Rattle.lvm_varyon.specs.Copied.{all_copies}
 use Rattle.lvm_varyon.specs.Parts.{plan_beginning}
 use Rattle.lvm_varyon.proofs.EqualLemmas.AllWrites.{all_give, all_kept, records_kept, records_stop}

@@ -4,7 +4,7 @@ use Rattle.lvm_num.specs.declared.descriptor.Descriptor.{Descriptor}
 use Rattle.lvm_num.specs.Descriptor.{IsValid}
 use Rattle.lvm_num.specs.Disks.{has}
 use Rattle.lvm_write.specs.declared.begin.Begun.TheVariants as begun
-use Rattle.lvm_varyon.specs.passed.Names.{Recopy, AreApart, MayCopy, EqualiseGives, EqualisedStaysKept, copies_dirty}
+use Rattle.lvm_varyon.specs.passed.Recovery.{Recopy, AreApart, MayCopy, EqualiseGives, EqualisedStaysKept, copies_dirty}
 use Rattle.lvm_varyon.specs.Copied.{all_copies}
 use Rattle.lvm_varyon.proofs.EqualLemmas.Equalising.{got_stuck, made_equal, one_failed, spends_all, went_dark}
 use Rattle.lvm_varyon.proofs.writes.make_equal.Goals as goal

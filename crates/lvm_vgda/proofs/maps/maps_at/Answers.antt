@@ -6,7 +6,7 @@ use Rattle.lvm_num.specs.declared.descriptor.LvRow.{LvRow}
 use Rattle.lvm_num.specs.Descriptor.{partitions_in}
 use Rattle.lvm_num.specs.DescriptorBytes.{partitions_at, maps_at}
 use Rattle.lvm_num.specs.Reading.{Rest}
-use Rattle.lvm_vgda.specs.passed.Names.{rest_of, Fails}
+use Rattle.lvm_vgda.specs.passed.Fields.{rest_of, Fails}
 use Rattle.lvm_vgda.specs.Used.{Uses}
 use Rattle.lvm_vgda.proofs.DescriptorBytesLemmas.MapLoops.{same_partitions, mapped, with_front, taken, taken_partitions, left_over, next_row, maps_go_on, maps_end, maps_done, own_copies}
 use Rattle.lvm_vgda.proofs.maps.maps_at.Goals as goal

@@ -1,7 +1,7 @@
 use Rattle.std.proofs.Common.{◌≡◌, [], length, take, drop}
 use Rattle.lvm_num.specs.Descriptor.{partitions_in}
 use Rattle.lvm_num.specs.DescriptorBytes.{maps_at}
-use Rattle.lvm_vgda.specs.passed.Names.{rest_of}
+use Rattle.lvm_vgda.specs.passed.Fields.{rest_of}
 use Rattle.lvm_vgda.specs.Used.{Uses}
 use Rattle.lvm_vgda.proofs.DescriptorBytesLemmas.MapLoops.{with_front}
 use Rattle.lvm_vgda.proofs.maps.maps_at.Given as goal

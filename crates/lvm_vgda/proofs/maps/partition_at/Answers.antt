@@ -3,7 +3,7 @@ use Rattle.std.proofs.lemmas.Result.{err_from_is_err_and}
 use Rattle.lvm_num.specs.declared.place.Pp.{Pp}
 use Rattle.lvm_num.specs.DescriptorBytes.{unfinished, partition_at}
 use Rattle.lvm_num.specs.Reading.{Rest}
-use Rattle.lvm_vgda.specs.passed.Names.{Gives, Fails, rest_of}
+use Rattle.lvm_vgda.specs.passed.Fields.{Gives, Fails, rest_of}
 use Rattle.lvm_vgda.specs.Used.{free_at}
 use Rattle.lvm_vgda.proofs.DescriptorBytesLemmas.MapLoops.{fails_on, passes_on, copy_disk_at, two_parts}
 use Rattle.lvm_vgda.proofs.maps.partition_at.Goals as goal

@@ -2,9 +2,9 @@ use Rattle.std.proofs.Common.{◌≡◌, ◌-◌, ◌++◌, [], List, append-nil
 use Rattle.std.proofs.lemmas.Result.{err_from_is_err_and}
 use Rattle.lvm_num.specs.declared.place.Pp.{Pp}
 use Rattle.lvm_num.specs.DescriptorBytes.{partition_at, partitions_at}
-use Rattle.lvm_vgda.specs.passed.Names.{rest_of, Fails}
+use Rattle.lvm_vgda.specs.passed.Fields.{rest_of, Fails}
 use Rattle.lvm_vgda.specs.Used.{Uses}
-use Rattle.lvm_vgda.proofs.passed.Names.{goes_on, ends, is_done}
+use Rattle.lvm_vgda.proofs.passed.Fields.{goes_on, ends, is_done}
 use Rattle.lvm_vgda.proofs.RepeatsLemmas.{partitions_repeat}
 use Rattle.lvm_vgda.proofs.UsedLemmas.{uses-more}
 use Rattle.lvm_vgda.proofs.maps.partitions_at.Goals as goal

@@ -1,7 +1,7 @@
 use Rattle.std.proofs.Common.{◌≡◌, ◌-◌, ◌++◌, [], List}
 use Rattle.lvm_num.specs.declared.place.Pp.{Pp}
 use Rattle.lvm_num.specs.DescriptorBytes.{partitions_at}
-use Rattle.lvm_vgda.specs.passed.Names.{rest_of}
+use Rattle.lvm_vgda.specs.passed.Fields.{rest_of}
 use Rattle.lvm_vgda.specs.Used.{Uses}
 use Rattle.lvm_vgda.proofs.maps.partitions_at.Given as goal
 

@@ -1,6 +1,6 @@
 use Rattle.std.proofs.Common.{sym, ap, subst, ◌∙◌, arith}
 use Rattle.lvm_num.specs.DescriptorBytes.{descriptor_of}
-use Rattle.lvm_vgda.specs.passed.Names.{Gives}
+use Rattle.lvm_vgda.specs.passed.Fields.{Gives}
 use Rattle.lvm_vgda.proofs.PartsLemmas.{descriptor_is}
 use Rattle.lvm_vgda.proofs.DescriptorBytesLemmas.Whole.{is_found, spelled_is_read}
 use Rattle.lvm_vgda.proofs.reading.decode.Goals as goal

@@ -2,7 +2,7 @@ use Rattle.std.proofs.Common.{List, sym, subst}
 use Rattle.std.specs.Prelude.{All}
 use Rattle.lvm_num.specs.declared.descriptor.PvRow.{PvRow}
 use Rattle.lvm_num.specs.Descriptor.{IsMember}
-use Rattle.lvm_vgda.specs.passed.Names.{rest_of}
+use Rattle.lvm_vgda.specs.passed.Fields.{rest_of}
 use Rattle.lvm_vgda.proofs.DescriptorLemmas.PassLaws.{members_pass, volumes_pass}
 use Rattle.lvm_vgda.proofs.reading.rows_at.Goals as goal
 

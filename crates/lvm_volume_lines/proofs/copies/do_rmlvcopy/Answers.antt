@@ -1,7 +1,7 @@
 use Rattle.std.proofs.Common.{◌≡◌, ◌≤◌, ◌∙◌, ℕ, refl, sym, ap, subst, arith}
 use Rattle.lvm_core.specs.State.{state_of}
 use Rattle.lvm_core.specs.Sound.{HaveAllLanded}
-use Rattle.lvm_volume_lines.specs.passed.Names.{AreAnswered}
+use Rattle.lvm_volume_lines.specs.passed.Posts.{AreAnswered}
 use Rattle.lvm_volume_lines.specs.passed.Volumes.{RmlvcopyGives, to_take}
 use Rattle.lvm_volume_lines.proofs.passed.TieCommands.{rmlvcopy_goes_on}
 use Rattle.lvm_volume_lines.specs.passed.GroupLines.{EndsUnasked, OfGroup, open_in, session_in, Refusal, Reply, Stage}

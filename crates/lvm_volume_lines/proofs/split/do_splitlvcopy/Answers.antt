@@ -1,7 +1,7 @@
 use Rattle.std.proofs.Common.{◌≡◌, ◌≤◌, ◌∙◌, ℕ, List, refl, sym, ap, subst, arith}
 use Rattle.lvm_core.specs.State.{state_of}
 use Rattle.lvm_core.specs.Sound.{HaveAllLanded}
-use Rattle.lvm_volume_lines.specs.passed.Names.{AreAnswered}
+use Rattle.lvm_volume_lines.specs.passed.Posts.{AreAnswered}
 use Rattle.lvm_volume_lines.specs.passed.Splitting.{SplitGives, to_split}
 use Rattle.lvm_volume_lines.proofs.passed.Splitting.{split_goes_on}
 use Rattle.lvm_volume_lines.specs.passed.GroupLines.{EndsUnasked, OfGroup, open_in, session_in, Refusal, Reply, Stage}

@@ -1,5 +1,5 @@
 use Rattle.std.proofs.Common.{◌≡◌, ◌∙◌, [], Bool, Result, Err, false, sym, ap, subst}
-use Rattle.lvm_range_lines.specs.passed.Names.{GroupFault, is_over}
+use Rattle.lvm_range_lines.specs.passed.VolumePlan.{GroupFault, is_over}
 use Rattle.lvm_range_lines.specs.passed.VolumePlanFaultGroupFault as fault
 use Rattle.lvm_volume_lines.specs.Commands.{IsLeftAs, IsLeftOn}
 use Rattle.lvm_volume_lines.proofs.volumes.after.Goals as goal

@@ -1,7 +1,7 @@
 use Rattle.std.proofs.Common.{◌≡◌, ◌∙◌, [], Bool, true, false, sym, subst}
 use Rattle.lvm_volume_lines.specs.Commands.{IsLeftAs, IsLeftOff, IsLeftOn}
 use Rattle.lvm_volume_lines.proofs.volumes.after_fault.Goals as goal
-use Rattle.lvm_range_lines.specs.passed.Names.{ends_session}
+use Rattle.lvm_range_lines.specs.passed.VolumePlan.{ends_session}
 
 pub close_after-requires-clause-dark : goal.close_after-requires-clause-dark
 close_after-requires-clause-dark g c = c.requires.dark

@@ -2,7 +2,7 @@ use Rattle.std.proofs.Common.{◌≡◌, ◌≤◌, ◌∙◌, ℕ, refl, sym, a
 use Rattle.lvm_core.specs.State.{state_of}
 use Rattle.lvm_core.specs.Sound.{HaveAllLanded}
 use Rattle.lvm_range_lines.proofs.passed.TieCommands.{mklv_goes_on}
-use Rattle.lvm_range_lines.specs.passed.Names.{AreAnswered}
+use Rattle.lvm_range_lines.specs.passed.Posts.{AreAnswered}
 use Rattle.lvm_range_lines.specs.passed.Volumes.{MklvGives, to_make}
 use Rattle.lvm_range_lines.specs.passed.GroupLines.{EndsUnasked, OfGroup, IsOn, open_in, session_in, Refusal, Reply, Stage}
 use Rattle.lvm_range_lines.specs.passed.RefusalVariants as refusal

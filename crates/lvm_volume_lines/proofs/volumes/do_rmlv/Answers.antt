@@ -2,7 +2,7 @@ use Rattle.std.proofs.Common.{◌≡◌, ◌≤◌, ◌∙◌, ℕ, refl, sym, a
 use Rattle.lvm_core.specs.State.{state_of}
 use Rattle.lvm_core.specs.Sound.{HaveAllLanded}
 use Rattle.lvm_range_lines.proofs.passed.TieCommands.{rmlv_goes_on}
-use Rattle.lvm_range_lines.specs.passed.Names.{AreAnswered}
+use Rattle.lvm_range_lines.specs.passed.Posts.{AreAnswered}
 use Rattle.lvm_range_lines.specs.passed.Volumes.{RmlvGives, to_remove}
 use Rattle.lvm_range_lines.specs.passed.GroupLines.{EndsUnasked, OfGroup, open_in, session_in, Refusal, Reply, Stage}
 use Rattle.lvm_range_lines.specs.passed.RefusalVariants as refusal

@@ -6,7 +6,7 @@ use Rattle.lvm_num.specs.declared.descriptor.Descriptor.{Descriptor}
 use Rattle.lvm_num.specs.declared.descriptor.LvRow.{LvRow}
 use Rattle.lvm_num.specs.Descriptor.{IsValid, most_volumes}
 use Rattle.lvm_map.specs.FirstFit.{IsAllocated, new_volume}
-use Rattle.lvm_core.specs.passed.Names.{Core, is_there}
+use Rattle.lvm_core.specs.passed.Session.{Core, is_there}
 use Rattle.lvm_volume_plan.specs.NewVolume.{row_for, with_volume}
 use Rattle.lvm_volume_plan.specs.Faults.{HasPlaces}
 use Rattle.lvm_volume_plan.proofs.NewVolumeLemmas.NewDescriptor.{valid_with}

@@ -4,7 +4,7 @@ use Rattle.std.proofs.lemmas.Result.{err_from_is_err_and}
 use Rattle.lvm_num.specs.declared.place.Pp.{Pp}
 use Rattle.lvm_num.specs.declared.status.Status.{Status}
 use Rattle.lvm_num.specs.Status.{calls_missing}
-use Rattle.lvm_volume_plan.specs.passed.Names.{CommitFault, state_of, HasStated}
+use Rattle.lvm_volume_plan.specs.passed.Core.{CommitFault, state_of, HasStated}
 use Rattle.lvm_session.specs.State.{State}
 use Rattle.lvm_volumes.specs.Endings.{StillHeld, KeepsFresh}
 use Rattle.lvm_volumes.specs.Stages.{IsLowestMissing}

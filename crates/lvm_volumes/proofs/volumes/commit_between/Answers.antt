@@ -2,7 +2,7 @@ use Rattle.std.proofs.Common.{◌≤◌, [], Ok, Err, refl, sym, ap, subst, ◌�
 use Rattle.std.proofs.lemmas.Result.{err_from_is_err_and}
 use Rattle.lvm_vol.specs.Log.{Log, plain_fact, spare_entries}
 use Rattle.lvm_session.specs.State.{Core, State}
-use Rattle.lvm_volume_plan.specs.passed.Names.{state_of, IsSettled, HasSpareNumbers}
+use Rattle.lvm_volume_plan.specs.passed.Core.{state_of, IsSettled, HasSpareNumbers}
 use Rattle.lvm_volumes.proofs.StagesLemmas.Entering.{settled_entered, spare_more, needs_one, commits_between}
 use Rattle.lvm_volumes.proofs.volumes.commit_between.Goals as goal
 

@@ -2,7 +2,7 @@ use Rattle.std.proofs.Common.{[]}
 use Rattle.std.proofs.lemmas.List.Elements.{All-cons, All-nil}
 use Rattle.lvm_num.specs.Status.{IsVolumeNumber}
 use Rattle.lvm_session.specs.State.{State}
-use Rattle.lvm_volume_plan.specs.passed.Names.{state_of}
+use Rattle.lvm_volume_plan.specs.passed.Core.{state_of}
 use Rattle.lvm_volumes.proofs.StagesLemmas.Unmarking.{unmark_clean, unmark_keeps, unmark_leaves, unmark_still}
 use Rattle.lvm_volumes.proofs.volumes.drop_mark.Goals as goal
 

@@ -4,7 +4,8 @@ use Rattle.std.proofs.lemmas.Result.{err_from_is_err_and}
 use Rattle.lvm_num.specs.declared.place.Pp.{Pp}
 use Rattle.lvm_num.specs.declared.descriptor.Descriptor.{Descriptor}
 use Rattle.lvm_vol.specs.Log.{Log, spare_entries}
-use Rattle.lvm_volume_plan.specs.passed.Names.{many_there, CommitFault, state_of, NoDescriptor, Leaves}
+use Rattle.lvm_volume_plan.specs.passed.Commit.{many_there}
+use Rattle.lvm_volume_plan.specs.passed.Core.{CommitFault, state_of, NoDescriptor, Leaves}
 use Rattle.lvm_session.specs.State.{Core, State}
 use Rattle.lvm_volumes.specs.Endings.{commanding}
 use Rattle.lvm_volumes.specs.Stages.{AreUnusedOn, AreCleared, ClearEnds}

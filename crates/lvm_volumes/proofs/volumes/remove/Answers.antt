@@ -1,6 +1,6 @@
 use Rattle.std.proofs.Common.{inl}
 use Rattle.std.proofs.lemmas.Result.{err_from_is_err_and}
-use Rattle.lvm_volume_plan.specs.passed.Names.{state_of}
+use Rattle.lvm_volume_plan.specs.passed.Core.{state_of}
 use Rattle.lvm_volume_plan.specs.PlannedVolume.{IsWithout}
 use Rattle.lvm_session.specs.State.{State}
 use Rattle.lvm_volumes.proofs.StagesLemmas.Unmarking.{gone, gone_ends, gone_keeps, gone_leaves, gone_still, spare, unnamed_leaves}

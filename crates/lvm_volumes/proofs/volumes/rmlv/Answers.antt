@@ -1,6 +1,6 @@
 use Rattle.std.proofs.Common.{Err}
 use Rattle.std.proofs.lemmas.Result.{err_from_is_err_and}
-use Rattle.lvm_volume_plan.specs.passed.Names.{CommitFault, state_of, IsSettled}
+use Rattle.lvm_volume_plan.specs.passed.Core.{CommitFault, state_of, IsSettled}
 use Rattle.lvm_session.specs.State.{State}
 use Rattle.lvm_volumes.specs.Endings.{StillHeld, KeepsFresh}
 use Rattle.lvm_volumes.specs.Volumes.{to_remove}

@@ -1,7 +1,7 @@
 use Rattle.std.proofs.Common.{[], ap}
 use Rattle.lvm_num.specs.declared.descriptor.Descriptor.{Descriptor}
 use Rattle.lvm_session.specs.State.{State}
-use Rattle.lvm_volume_plan.specs.passed.Names.{state_of}
+use Rattle.lvm_volume_plan.specs.passed.Core.{state_of}
 use Rattle.lvm_volumes.proofs.StagesLemmas.Entering.{has_numbers}
 use Rattle.lvm_volumes.proofs.StagesLemmas.Removing.{unname_ends, unname_leaves, unname_still, unname_keeps}
 use Rattle.lvm_volumes.proofs.volumes.unname.Goals as goal

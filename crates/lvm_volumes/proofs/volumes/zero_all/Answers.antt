@@ -4,7 +4,8 @@ use Rattle.std.proofs.lemmas.List.Elements.{Contains-get_or}
 use Rattle.std.proofs.lemmas.Result.{err_from_is_err_and}
 use Rattle.lvm_num.specs.declared.place.Pp.{Pp}
 use Rattle.lvm_num.specs.Descriptor.{IsPartitionOf}
-use Rattle.lvm_volume_plan.specs.passed.Names.{IsFree, CommitFault, state_of, NoDescriptor, Leaves}
+use Rattle.lvm_volume_plan.specs.passed.Commit.{IsFree}
+use Rattle.lvm_volume_plan.specs.passed.Core.{CommitFault, state_of, NoDescriptor, Leaves}
 use Rattle.lvm_session.specs.State.{Core, State}
 use Rattle.lvm_volumes.specs.Endings.{commanding}
 use Rattle.lvm_volumes.proofs.EndingsLemmas.Zeroing.{zero_among, zero_still}

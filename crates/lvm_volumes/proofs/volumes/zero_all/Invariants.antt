@@ -1,4 +1,4 @@
-use Rattle.lvm_volume_plan.specs.passed.Names.{state_of}
+use Rattle.lvm_volume_plan.specs.passed.Core.{state_of}
 use Rattle.lvm_volumes.proofs.StagesLemmas.Zeros.{IsZeroing}
 use Rattle.lvm_volumes.proofs.volumes.zero_all.Given as goal
 

@@ -8,7 +8,7 @@ use Rattle.lvm_num.specs.DescriptorBytes.{descriptor_bytes}
 use Rattle.lvm_num.specs.Disks.{has}
 use Rattle.lvm_num.specs.Status.{IsValidStatus}
 use Rattle.lvm_num.specs.StatusBytes.{status_bytes}
-use Rattle.lvm_core.specs.passed.Names.{Choice}
+use Rattle.lvm_core.specs.passed.Quorum.{Choice}
 use Rattle.lvm_core.specs.declared.parts.Room.{Room}
 use Rattle.lvm_core.specs.Starting.{IsReservedFor}
 use Rattle.lvm_group.specs.declared.plan.Plan.{Plan}

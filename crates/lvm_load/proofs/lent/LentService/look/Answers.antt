@@ -6,7 +6,7 @@ use Rattle.lvm_session.specs.State.{Core, State, state, state_of}
 use Rattle.lvm_session.specs.Turns.{TurnMakes}
 use Rattle.lvm_keeps_events.specs.Telling.{TurnTells}
 use Rattle.lvm_driver.specs.Showing.{image_of}
-use Rattle.lvm_driver.specs.passed.Names.{RunsOn}
+use Rattle.lvm_driver.specs.passed.Going.{RunsOn}
 use Rattle.lvm_workers.specs.declared.service.Seen.TheVariants as seen
 use Rattle.lvm_load.specs.declared.lent.Lent.{Lent}
 use Rattle.lvm_load.proofs.LendingLemmas.Serving.{it_is, its_there, moved_behind, not_yet, takes, takes_looks, takes_serves, turn_looks, turn_serves}

@@ -1,0 +1,3 @@
+-- Passed on from `lvm_due`.
+pub use Rattle.lvm_due.proofs.DescriptorLemmas.Laid.{laid_out}
+pub use Rattle.lvm_due.proofs.DescriptorLemmas.Members.{copies_in_are, few_copies, place_of}

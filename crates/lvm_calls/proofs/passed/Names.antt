@@ -1,3 +1,0 @@
--- Passed on from the crates below.
-pub use Rattle.lvm_due.proofs.DescriptorLemmas.Laid.{laid_out}
-pub use Rattle.lvm_due.proofs.DescriptorLemmas.Members.{copies_in_are, few_copies, place_of}

@@ -1,7 +1,0 @@
--- Passed on from the crates below.
-pub use Rattle.lvm_steps.specs.Behind.{ClockIsAhead, StampsAreEarlier, beginning_at}
-pub use Rattle.lvm_steps.specs.Laws.{IsOtherOrEarlier}
-pub use Rattle.lvm_steps.specs.Committing.{DiffersInVolume, VolumeIsServed}
-pub use Rattle.lvm_steps.specs.Moments.{RunBegins, HistoryHolds, ImagesKept, Keeps, SpanGoesOn, StaysKept}
-pub use Rattle.lvm_steps.specs.Requests.{at}
-pub use Rattle.lvm_write.specs.passed.Names.{TransferGives, flight_of, Moved}

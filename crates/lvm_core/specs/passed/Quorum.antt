@@ -1,0 +1,2 @@
+-- Passed on from `lvm_quorum`.
+pub use Rattle.lvm_quorum.specs.declared.choice.Choice.{Choice}

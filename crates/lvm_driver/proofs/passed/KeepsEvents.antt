@@ -1,0 +1,8 @@
+-- Passed on from `lvm_keeps_events`.
+pub use Rattle.lvm_keeps_events.proofs.GeometryLemmas.{blocks_fit}
+pub use Rattle.lvm_keeps_events.proofs.BeginLogLemmas.{next_is}
+pub use Rattle.lvm_keeps_events.proofs.OpeningLemmas.Opening.{at_place, counted_at, last_count, seen_open_keeps}
+pub use Rattle.lvm_keeps_events.proofs.CountsLemmas.{turn_counts}
+pub use Rattle.lvm_keeps_events.proofs.TurnCallsLemmas.{some_position, turn_leaves_table}
+pub use Rattle.lvm_keeps_events.proofs.TellingLemmas.Frames.{copy_stays, marked_stays, note_stays, status_stays}
+pub use Rattle.lvm_keeps_events.proofs.TurningLemmas.{turn_ends, turn_keeps}

@@ -1,2 +1,0 @@
--- Passed on from the crates below.
-pub use Rattle.lvm_due.proofs.DescriptorLemmas.Members.{copies_in_are, few_in, numbered, place_of}

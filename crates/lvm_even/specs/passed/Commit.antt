@@ -1,0 +1,2 @@
+-- Passed on from `lvm_commit`.
+pub use Rattle.lvm_commit.specs.Committed.{ShowsCommitted}

@@ -1,5 +1,0 @@
--- Passed on from the crates below.
-pub use Rattle.lvm_core.proofs.CacheLemmas.{empty_names_none}
-pub use Rattle.lvm_core.proofs.SoundLemmas.Dark.{landed_still}
-pub use Rattle.lvm_core.proofs.SoundLemmas.Settling.{starts_numbered, starts_settled}
-pub use Rattle.lvm_core.proofs.passed.Names.{shown_is_only}

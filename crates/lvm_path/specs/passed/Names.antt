@@ -1,4 +1,0 @@
--- Passed on from the crates below.
-pub use Rattle.lvm_sched.specs.Reads.{AreCopies, AreCopiesAbove, IsReadOrder}
-pub use Rattle.lvm_sched.specs.Writes.{is_flying, is_waiting, next_target}
-pub use Rattle.lvm_sched.specs.declared.writes.TargetState.{TargetState}

@@ -1,0 +1,2 @@
+-- Passed on from `lvm_going`.
+pub use Rattle.lvm_driver.specs.passed.Going.{LeavesSession, RunsOn, KeepsFrame, KeepsShape}

@@ -1,7 +1,0 @@
--- Passed on from the crates below.
-pub use Rattle.lvm_even.proofs.passed.Names.{contains, of_map, of_rows}
-pub use Rattle.lvm_even.proofs.ExamplesLemmas.Examples.{behind, enough, is_naming, naming_read, shows, torn_below, valid}
-pub use Rattle.lvm_even.proofs.ExamplesLemmas.Pairs.{both_copies, the_row}
-pub use Rattle.lvm_even.proofs.ExamplesLemmas.Slots.{first_partition}
-pub use Rattle.lvm_even.proofs.ExamplesLemmas.Sectors.{told}
-pub use Rattle.lvm_even.proofs.Rows.{mib_positive, row_is_volume}

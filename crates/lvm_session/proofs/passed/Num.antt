@@ -1,0 +1,2 @@
+-- Passed on from `lvm_num`.
+pub use Rattle.lvm_num.proofs.Booleans.{and_true}

@@ -1,0 +1,2 @@
+-- Passed on from `lvm_rec`.
+pub use Rattle.lvm_kept.specs.passed.Rec.{Homes}

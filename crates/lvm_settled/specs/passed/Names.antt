@@ -1,8 +1,0 @@
--- Passed on from the crates below.
-pub use Rattle.lvm_core.specs.Coming.{BringsOn, IsStarted}
-pub use Rattle.lvm_core.specs.Held.{IsHeld, NotesAreHome}
-pub use Rattle.lvm_core.specs.Settled.{IsSettled}
-pub use Rattle.lvm_core.specs.Sound.{HaveAllLanded, IsFittingAtRest, HasNothingUnderWay, IsSoundAtRest}
-pub use Rattle.lvm_core.specs.Starting.{IsRoom, session_room_of}
-pub use Rattle.lvm_core.specs.declared.parts.Room.{Room}
-pub use Rattle.lvm_even.specs.Even.{IsAlone, IsEven, MissingAreStale}

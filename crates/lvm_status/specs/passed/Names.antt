@@ -1,3 +1,0 @@
--- Passed on from the crates below.
-pub use Rattle.lvm_status.specs.Marking.{IsLostCopy, IsLeftIn, HasMark, MarksLost}
-pub use Rattle.lvm_status.specs.Table.{SameMissing, SameStale, has_row}

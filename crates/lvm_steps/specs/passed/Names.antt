@@ -1,2 +1,0 @@
--- Passed on from the crates below.
-pub use Rattle.lvm_vol.specs.Facts.{Fact}

@@ -1,0 +1,2 @@
+-- Passed on from `lvm_steps`.
+pub use Rattle.lvm_steps.proofs.RecordLemmas.{join, split}

@@ -1,0 +1,2 @@
+-- Passed on from `lvm_crash`.
+pub use Rattle.lvm_crash.specs.Owned.{OnlyUpdateSince}

@@ -1,0 +1,2 @@
+-- Passed on from `lvm_rest`.
+pub use Rattle.lvm_rest.specs.Closed.{AllLand}

@@ -1,0 +1,2 @@
+-- Passed on from `lvm_posts`.
+pub use Rattle.lvm_handover.specs.passed.Posts.{AreAnswered, AreHeld, Asked, IsLaidOut, Post, ended_with}

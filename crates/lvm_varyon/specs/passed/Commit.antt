@@ -1,0 +1,2 @@
+-- Passed on from `lvm_commit`.
+pub use Rattle.lvm_core.specs.passed.Commit.{HoldsCommitted, NoneIsLeft, ShowsCommitted, next_stamp, there}

@@ -1,0 +1,2 @@
+-- Passed on from `lvm_quorum`.
+pub use Rattle.lvm_quorum.specs.Choosing.{HasNoRecord, HasRecord, IsAmbiguous, LacksQuorum}

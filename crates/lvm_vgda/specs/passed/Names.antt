@@ -1,3 +1,0 @@
--- Passed on from the crates below.
-pub use Rattle.lvm_fields.specs.Reading.{Fails, Gives, rest_of}
-pub use Rattle.lvm_fields.specs.declared.fault.Fault.{Fault}

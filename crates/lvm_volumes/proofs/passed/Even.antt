@@ -1,0 +1,2 @@
+-- Passed on from `lvm_even`.
+pub use Rattle.lvm_even.proofs.Rows.{row_is_volume}

@@ -1,0 +1,2 @@
+-- Passed on from `lvm_vgsa`.
+pub use Rattle.lvm_quorum.proofs.passed.Vgsa.{dirty_small, few_rows, is_read_again, length-status}
