@@ -18,7 +18,7 @@ use Rattle.lvm_session.specs.declared.open.Power.TheVariants as power
 use Rattle.lvm_session.specs.State.{Core}
 use Rattle.lvm_session.specs.Judging.{is_missing, is_usable}
 use Rattle.lvm_session.specs.Marks.{is_among}
-use Rattle.lvm_session.specs.Calls.{CallsStale, OpenMoveGives, OpensMove, aged, copy_at, has_numbers, is_in_use, move_fault, move_refusal_at, move_refusal_in, move_refusal_on, move_refusal_when}
+use Rattle.lvm_session.specs.Calls.{CallsStale, OpenMoveGives, OpensMove, aged, copy_at, has_numbers, is_in_use, move_fault, move_fault_at, move_fault_in, move_fault_on, move_fault_when}
 use Rattle.lvm_session.specs.Asking.{IsAwake}
 use Rattle.lvm_session.specs.Ends.{with_step}
 use Rattle.lvm_session.specs.declared.origin.Origin.{Origin}
@@ -57,7 +57,7 @@ pub record IsFineMove (core : Core) (to : Pp) (copies : List Pp) : Type 0 where
   pub usable : list_any (is_usable core) copies ≡ true
   pub numbers : has_numbers core ≡ true
 
-pub fine_move : (core : Core) (to : Pp) (copies : List Pp) → move_refusal_at core to copies ≡ None → IsFineMove core to copies
+pub fine_move : (core : Core) (to : Pp) (copies : List Pp) → move_fault_at core to copies ≡ None → IsFineMove core to copies
 fine_move core to copies is = by (is_in_use core to) (is_missing core to.disk) (list_any (is_usable core) copies) (has_numbers core) refl refl refl refl is
   where
     by : (a b c d : Bool) → is_in_use core to ≡ a → is_missing core to.disk ≡ b → list_any (is_usable core) copies ≡ c → has_numbers core ≡ d
@@ -78,11 +78,11 @@ pub record IsMoveTaken (core : Core) (lv lp number : ℕ) (to : Pp) : Type 0 whe
   pub fine : IsFineMove core to (copies_of its.row lp)
 
 module _ (core : Core) (lv lp number : ℕ) (to : Pp) (on : core.power ≡ power.On) (free : core.copy ≡ None) where
-  move_in : (row : LvRow) → volume_of core.descriptor lv ≡ Some row → move_refusal_in core row lp number to ≡ None → IsMoveTaken core lv lp number to
+  move_in : (row : LvRow) → volume_of core.descriptor lv ≡ Some row → move_fault_in core row lp number to ≡ None → IsMoveTaken core lv lp number to
   move_in row volume is = by_test (nat_lt lp row.lps) (copy_at (copies_of row lp) number) refl refl is
     where
       by_test : (b : Bool) (p : Option Pp) → nat_lt lp row.lps ≡ b → copy_at (copies_of row lp) number ≡ p
-          → (if b && is_some p then move_refusal_at core to (copies_of row lp) else Some denial.OutOfRange) ≡ None → IsMoveTaken core lv lp number to
+          → (if b && is_some p then move_fault_at core to (copies_of row lp) else Some denial.OutOfRange) ≡ None → IsMoveTaken core lv lp number to
       by_test true (Some p) within at fine = record {
         on = on;
         none = free;
@@ -92,25 +92,25 @@ module _ (core : Core) (lv lp number : ℕ) (to : Pp) (on : core.power ≡ power
       by_test true None within at none = absurd (cc none)
       by_test false p within at none = absurd (cc none)
 
-  move_of : option_map_or (λ (row : LvRow). move_refusal_in core row lp number to) (volume_of core.descriptor lv) (Some denial.NoVolume) ≡ None → IsMoveTaken core lv lp number to
+  move_of : option_map_or (λ (row : LvRow). move_fault_in core row lp number to) (volume_of core.descriptor lv) (Some denial.NoVolume) ≡ None → IsMoveTaken core lv lp number to
   move_of is = by_row (volume_of core.descriptor lv) refl is
     where
-      by_row : (row : Option LvRow) → volume_of core.descriptor lv ≡ row → option_map_or (λ (row : LvRow). move_refusal_in core row lp number to) row (Some denial.NoVolume) ≡ None → IsMoveTaken core lv lp number to
+      by_row : (row : Option LvRow) → volume_of core.descriptor lv ≡ row → option_map_or (λ (row : LvRow). move_fault_in core row lp number to) row (Some denial.NoVolume) ≡ None → IsMoveTaken core lv lp number to
       by_row None volume none = absurd (cc none)
       by_row (Some row) volume none = move_in row volume none
 
-move_on : (core : Core) (lv lp number : ℕ) (to : Pp) → core.power ≡ power.On → move_refusal_on core lv lp number to ≡ None → IsMoveTaken core lv lp number to
+move_on : (core : Core) (lv lp number : ℕ) (to : Pp) → core.power ≡ power.On → move_fault_on core lv lp number to ≡ None → IsMoveTaken core lv lp number to
 move_on core lv lp number to on is = by_copy core.copy refl is
   where
     by_copy : (copy : Option OpenCopy) → core.copy ≡ copy
-        → (if is_some copy then Some denial.Busy else option_map_or (λ (row : LvRow). move_refusal_in core row lp number to) (volume_of core.descriptor lv) (Some denial.NoVolume)) ≡ None → IsMoveTaken core lv lp number to
+        → (if is_some copy then Some denial.Busy else option_map_or (λ (row : LvRow). move_fault_in core row lp number to) (volume_of core.descriptor lv) (Some denial.NoVolume)) ≡ None → IsMoveTaken core lv lp number to
     by_copy None free none = move_of core lv lp number to on free none
     by_copy (Some c) busy none = absurd (cc none)
 
 pub move_taken : (core : Core) (lv lp number : ℕ) (to : Pp) → IsAwake core → None ≡ move_fault core lv lp number to → IsMoveTaken core lv lp number to
 move_taken core lv lp number to awake is = by_power core.power refl (sym is)
   where
-    by_power : (p : Power) → core.power ≡ p → move_refusal_when p (move_refusal_on core lv lp number to) ≡ None → IsMoveTaken core lv lp number to
+    by_power : (p : Power) → core.power ≡ p → move_fault_when p (move_fault_on core lv lp number to) ≡ None → IsMoveTaken core lv lp number to
     by_power power.On on none = move_on core lv lp number to on none
     by_power power.Off off none = absurd (cc none)
     by_power power.Dark dark none = absurd (cc none)
@@ -119,7 +119,7 @@ move_taken core lv lp number to awake is = by_power core.power refl (sym is)
 -- ---- no memory is wanting
 
 module _ (core : Core) (lv lp number : ℕ) (to : Pp) where
-  none_at : (copies : List Pp) → move_refusal_at core to copies ≡ Some denial.Memory → ⊥
+  none_at : (copies : List Pp) → move_fault_at core to copies ≡ Some denial.Memory → ⊥
   none_at copies = by (is_in_use core to) (is_missing core to.disk) (list_any (is_usable core) copies) (has_numbers core)
     where
       by : (a b c d : Bool) → (if a then Some denial.InUse else if b then Some (denial.Missing to.disk) else if not c then Some denial.NoFresh else if d then None else Some denial.HistoryFull) ≡ Some denial.Memory → ⊥
@@ -129,17 +129,17 @@ module _ (core : Core) (lv lp number : ℕ) (to : Pp) where
       by false false true true e = absurd (cc e)
       by false false true false e = absurd (cc e)
 
-  none_in : (row : LvRow) → move_refusal_in core row lp number to ≡ Some denial.Memory → ⊥
+  none_in : (row : LvRow) → move_fault_in core row lp number to ≡ Some denial.Memory → ⊥
   none_in row = by (nat_lt lp row.lps && is_some (copy_at (copies_of row lp) number))
     where
-      by : (b : Bool) → (if b then move_refusal_at core to (copies_of row lp) else Some denial.OutOfRange) ≡ Some denial.Memory → ⊥
+      by : (b : Bool) → (if b then move_fault_at core to (copies_of row lp) else Some denial.OutOfRange) ≡ Some denial.Memory → ⊥
       by true e = none_at (copies_of row lp) e
       by false e = absurd (cc e)
 
-  none_on : move_refusal_on core lv lp number to ≡ Some denial.Memory → ⊥
+  none_on : move_fault_on core lv lp number to ≡ Some denial.Memory → ⊥
   none_on = by (is_some core.copy) (volume_of core.descriptor lv)
     where
-      by : (b : Bool) (row : Option LvRow) → (if b then Some denial.Busy else option_map_or (λ (row : LvRow). move_refusal_in core row lp number to) row (Some denial.NoVolume)) ≡ Some denial.Memory → ⊥
+      by : (b : Bool) (row : Option LvRow) → (if b then Some denial.Busy else option_map_or (λ (row : LvRow). move_fault_in core row lp number to) row (Some denial.NoVolume)) ≡ Some denial.Memory → ⊥
       by true row e = absurd (cc e)
       by false None e = absurd (cc e)
       by false (Some row) e = none_in row e
@@ -147,7 +147,7 @@ module _ (core : Core) (lv lp number : ℕ) (to : Pp) where
   pub never_memory : move_fault core lv lp number to ≡ Some denial.Memory → ⊥
   never_memory = by core.power
     where
-      by : (p : Power) → move_refusal_when p (move_refusal_on core lv lp number to) ≡ Some denial.Memory → ⊥
+      by : (p : Power) → move_fault_when p (move_fault_on core lv lp number to) ≡ Some denial.Memory → ⊥
       by power.On e = none_on e
       by power.Off e = absurd (cc e)
       by power.Dark e = absurd (cc e)

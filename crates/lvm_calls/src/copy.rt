@@ -44,7 +44,7 @@ fn is_aimed_at(session: &Session, pp: Pp) -> bool
     any_aims_at(session, pp)
 }
 
-// Whether it is a move that has ended, to whose place a request still goes.
+// Whether it is a move that has ended, to whose destination a request still goes.
 fn is_still_aimed(session: &Session, copy: &OpenCopy) -> bool
     ensures { result ≡ is_still_aimed (core_of session.now) copy.now }
 {

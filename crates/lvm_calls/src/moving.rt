@@ -8,7 +8,7 @@ ghost use Rattle.lvm_num.specs.Descriptor.{IsLaidOut, IsValid, member_of, partit
 ghost use Rattle.lvm_session.specs.Fields.{core_of};
 ghost use Rattle.lvm_session.specs.Judging.{is_usable};
 ghost use Rattle.lvm_session.specs.Marks.{is_among};
-ghost use Rattle.lvm_session.specs.Calls.{is_in_use, move_fault, move_refusal_at, move_refusal_in, move_refusal_on};
+ghost use Rattle.lvm_session.specs.Calls.{is_in_use, move_fault, move_fault_at, move_fault_in, move_fault_on};
 
 use crate::ask::has_numbers;
 use crate::copy::copy_at;
@@ -64,8 +64,8 @@ fn any_is_usable(session: &Session, copies: &[Pp]) -> bool
     copies.iter().any(|pp| is_usable(session, *pp))
 }
 
-fn move_refusal_at(session: &Session, to: Pp, copies: &[Pp]) -> Option<OpenFault>
-    ensures { result ≡ move_refusal_at (core_of session.now) to copies.now }
+fn move_fault_at(session: &Session, to: Pp, copies: &[Pp]) -> Option<OpenFault>
+    ensures { result ≡ move_fault_at (core_of session.now) to copies.now }
 {
     if is_in_use(session, to) {
         Some(OpenFault::InUse)
@@ -80,9 +80,9 @@ fn move_refusal_at(session: &Session, to: Pp, copies: &[Pp]) -> Option<OpenFault
     }
 }
 
-fn move_refusal_in(session: &Session, row: &LvRow, lp: u32, number: u8, to: Pp) -> Option<OpenFault>
+fn move_fault_in(session: &Session, row: &LvRow, lp: u32, number: u8, to: Pp) -> Option<OpenFault>
     requires { IsLaidOut row.now }
-    ensures { result ≡ move_refusal_in (core_of session.now) row.now lp number to }
+    ensures { result ≡ move_fault_in (core_of session.now) row.now lp number to }
 {
     if lp >= row.lps {
         return Some(OpenFault::OutOfRange);
@@ -90,20 +90,20 @@ fn move_refusal_in(session: &Session, row: &LvRow, lp: u32, number: u8, to: Pp) 
     let copies = copies_of(row, lp);
     match copy_at(copies, number) {
         None => Some(OpenFault::OutOfRange),
-        Some(_) => move_refusal_at(session, to, copies),
+        Some(_) => move_fault_at(session, to, copies),
     }
 }
 
-fn move_refusal_on(session: &Session, lv: u16, lp: u32, number: u8, to: Pp) -> Option<OpenFault>
+fn move_fault_on(session: &Session, lv: u16, lp: u32, number: u8, to: Pp) -> Option<OpenFault>
     requires { IsValid session.now.descriptor }
-    ensures { result ≡ move_refusal_on (core_of session.now) lv lp number to }
+    ensures { result ≡ move_fault_on (core_of session.now) lv lp number to }
 {
     if session.copy.is_some() {
         return Some(OpenFault::Busy);
     }
     match volume_of(&session.descriptor, lv) {
         None => Some(OpenFault::NoVolume),
-        Some(row) => move_refusal_in(session, row, lp, number, to),
+        Some(row) => move_fault_in(session, row, lp, number, to),
     }
 }
 
@@ -116,6 +116,6 @@ pub fn move_fault(session: &Session, lv: u16, lp: u32, number: u8, to: Pp) -> Op
     match session.power {
         Power::Dark => Some(OpenFault::Dark),
         Power::Off => Some(OpenFault::Off),
-        Power::On | Power::Stuck => move_refusal_on(session, lv, lp, number, to),
+        Power::On | Power::Stuck => move_fault_on(session, lv, lp, number, to),
     }
 }

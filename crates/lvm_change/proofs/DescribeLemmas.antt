@@ -35,15 +35,15 @@ use Rattle.lvm_commit.specs.LawsOfFinding.{FindsNothingNew, FindsNoMore, FindsNo
 use Rattle.lvm_commit.proofs.SettlingLemmas.Chaining.{path_counts, keeps_wider}
 use Rattle.lvm_commit.proofs.LawsOfWritesLemmas.Holding.{with_told}
 use Rattle.lvm_change_laws.specs.Rule.{members_among, IsShownOn}
-use Rattle.lvm_change.specs.declared.turn.Turn.{Turn}
-use Rattle.lvm_change.specs.declared.turn.Turned.{Turned}
-use Rattle.lvm_change.specs.declared.turn.Turned.TheVariants as turned
-use Rattle.lvm_change.specs.Turn.{MayTurn, MayDescribe, HoldsBy, IsBefore, IsBetween, IsOfTurn, IsByBoth, HasFewVotes, ComesBack, TurnEnds, TurnGives, DescriptionGives}
-use Rattle.lvm_change.proofs.TurnLemmas.{comes_back, status_kept, status_finds, status_held, status_opens, descriptor_kept, descriptor_finds, descriptor_held, descriptor_shown, back_then}
+use Rattle.lvm_change.specs.declared.turn.Transition.{Transition}
+use Rattle.lvm_change.specs.declared.turn.TransitionEnd.{TransitionEnd}
+use Rattle.lvm_change.specs.declared.turn.TransitionEnd.TheVariants as turned
+use Rattle.lvm_change.specs.Transition.{MayMakeTransition, MayDescribe, HoldsBy, IsBefore, IsBetween, IsOfTransition, IsByBoth, HasFewVotes, ComesBack, IsTransitionEnd, TransitionGives, DescriptionGives}
+use Rattle.lvm_change.proofs.TransitionLemmas.{comes_back, status_kept, status_finds, status_held, status_opens, descriptor_kept, descriptor_finds, descriptor_held, descriptor_shown, back_then}
 
 -- ---- the descriptor
 
-module _ (turn : Turn) (there : Disks) (stamp : Stamp) (homes : Homes) (old : Device) (sectors : HasSectors old) (may : MayDescribe turn there stamp old) where
+module _ (turn : Transition) (there : Disks) (stamp : Stamp) (homes : Homes) (old : Device) (sectors : HasSectors old) (may : MayDescribe turn there stamp old) where
   abbrev pub wd : RecordWrite
   wd = write_of kind.Descriptor (record { stamp = next_stamp stamp; content = turn.content.now }) there homes
 
@@ -60,17 +60,17 @@ module _ (turn : Turn) (there : Disks) (stamp : Stamp) (homes : Homes) (old : De
   reads = ap descriptor_of may.records.content ∙ spelled_is_read turn.next.now may.valid_next
 
   -- nothing was written
-  pub nothing : (number p : ℕ) (buf : Buffer) (result : Turned) → buf.number ≡ number → ((written : ℕ) (back : Buffer) → result ≡ turned.Done written back → ⊥) → IsByBoth turn.was.now turn.next.now there buf result
+  pub nothing : (number p : ℕ) (buf : Buffer) (result : TransitionEnd) → buf.number ≡ number → ((written : ℕ) (back : Buffer) → result ≡ turned.Done written back → ⊥) → IsByBoth turn.was.now turn.next.now there buf result
       → DescriptionGives turn there stamp homes homes number p p old old result
   nothing number p buf result same never by = record {
     ends = ends result never by;
-    keeps = keeps_here there (IsOfTurn turn there stamp (next_stamp stamp)) old;
+    keeps = keeps_here there (IsOfTransition turn there stamp (next_stamp stamp)) old;
     spends = spends_none p old;
     kept = Here (λ between facts kept. kept);
     finds = λ between. descriptor_finds turn.was.now turn.next.now turn.told.now turn.content.now there stamp homes old sectors frames reads old (writing_here (IsOfRecord wd) old may.ready.flights) between.0;
   }
     where
-      ends : (result : Turned) → ((written : ℕ) (back : Buffer) → result ≡ turned.Done written back → ⊥) → IsByBoth turn.was.now turn.next.now there buf result → TurnEnds turn Between there (next_stamp stamp) homes homes number p old old result
+      ends : (result : TransitionEnd) → ((written : ℕ) (back : Buffer) → result ≡ turned.Done written back → ⊥) → IsByBoth turn.was.now turn.next.now there buf result → IsTransitionEnd turn Between there (next_stamp stamp) homes homes number p old old result
       ends (turned.Done written back) never by = absurd (never written back refl)
       ends (turned.WentOff have total written back) never by = (
         subst (λ (set : Disks). ComesBack there set number old old back) (sym by.1) (record {
@@ -87,7 +87,7 @@ module _ (turn : Turn) (there : Disks) (stamp : Stamp) (homes : Homes) (old : De
       ends turned.Stuck never by = absurd by
 
   module _ (enough : CanWrite turn.was.now there) (enough_too : CanWrite turn.next.now there) (slots : Homes) (number p q : ℕ) (new : Device) (leaves : DiskWritesLeave there (IsOfRecord wd) p q old new) where
-    of_turn : (d s : ℕ) (value : Sector) → IsOfRecord wd d s value → IsOfTurn turn there stamp (next_stamp stamp) d s value
+    of_turn : (d s : ℕ) (value : Sector) → IsOfRecord wd d s value → IsOfTransition turn there stamp (next_stamp stamp) d s value
     of_turn d s value its = record {
       write = wd;
       frames = frames;
@@ -97,25 +97,25 @@ module _ (turn : Turn) (there : Disks) (stamp : Stamp) (homes : Homes) (old : De
       its = its;
     }
 
-    pub described : (result : Turned) → TurnEnds turn Between there (next_stamp stamp) homes slots number p old new result → DescriptionGives turn there stamp homes slots number p q old new result
+    pub described : (result : TransitionEnd) → IsTransitionEnd turn Between there (next_stamp stamp) homes slots number p old new result → DescriptionGives turn there stamp homes slots number p q old new result
     described result ends = record {
       ends = ends;
-      keeps = keeps_wider there there (IsOfRecord wd) (IsOfTurn turn there stamp (next_stamp stamp)) old new (λ d off. off) of_turn leaves.keeps;
+      keeps = keeps_wider there there (IsOfRecord wd) (IsOfTransition turn there stamp (next_stamp stamp)) old new (λ d off. off) of_turn leaves.keeps;
       spends = leaves.spends;
       kept = map-path (λ d. Between → StaysKept old d)
           (λ d is between. descriptor_kept turn.was.now turn.next.now turn.told.now turn.content.now there stamp homes old sectors frames reads enough enough_too d is.0 is.1 between.1 between.0) (with_told leaves.moments);
       finds = λ between. descriptor_finds turn.was.now turn.next.now turn.told.now turn.content.now there stamp homes old sectors frames reads new (last-path leaves.moments) between.0;
     }
 
-    pub tried : (failed set : Disks) (buf : Buffer) → EachTried there (StandsTold wd) (λ written. Flips kind.Descriptor written homes slots) number old new failed buf → set ≡ written_well there failed → (result : Turned)
-        → IsByBoth turn.was.now turn.next.now set buf result → TurnEnds turn Between there (next_stamp stamp) homes slots number p old new result
+    pub tried : (failed set : Disks) (buf : Buffer) → EachTried there (StandsTold wd) (λ written. Flips kind.Descriptor written homes slots) number old new failed buf → set ≡ written_well there failed → (result : TransitionEnd)
+        → IsByBoth turn.was.now turn.next.now set buf result → IsTransitionEnd turn Between there (next_stamp stamp) homes slots number p old new result
     tried failed set buf each set_is result by = ends result by
       where
         comes : (written : Disks) (back : Buffer) → back ≡ buf → written ≡ set → ComesBack there written number old new back
         comes written back same is = subst (λ (b : Buffer). ComesBack there written number old new b) (sym same) (subst (λ (s : Disks). ComesBack there s number old new buf) (sym (is ∙ set_is))
             (comes_back turn.was.now turn.told.now kind.Descriptor turn.content.now there stamp homes old sectors slots new failed number buf each))
 
-        ends : (result : Turned) → IsByBoth turn.was.now turn.next.now set buf result → TurnEnds turn Between there (next_stamp stamp) homes slots number p old new result
+        ends : (result : TransitionEnd) → IsByBoth turn.was.now turn.next.now set buf result → IsTransitionEnd turn Between there (next_stamp stamp) homes slots number p old new result
         ends (turned.Done written back) by = (
           comes (has written) back by.0 by.1,
           record {
@@ -143,7 +143,7 @@ then_more next old m new R both first second image left = if_told old.media (λ 
     (λ (it : (id ≡ next.id) × (k ≡ next)). inr it)
     (told_at m.media (λ x. FindsNoMore next (contents_of (image_of m.sizes x)) (contents_of image)) mid.0 mid.1 (second image left) id k is))
 
-module _ (turn : Turn) (there : Disks) (stamp : Stamp) (homes : Homes) (old : Device) (sectors : HasSectors old) (may : MayTurn turn there stamp old) where
+module _ (turn : Transition) (there : Disks) (stamp : Stamp) (homes : Homes) (old : Device) (sectors : HasSectors old) (may : MayMakeTransition turn there stamp old) where
   abbrev pub ws : RecordWrite
   ws = write_of kind.Status (record { stamp = next_stamp stamp; content = turn.status.now }) there homes
 
@@ -151,7 +151,7 @@ module _ (turn : Turn) (there : Disks) (stamp : Stamp) (homes : Homes) (old : De
   Before = IsBefore turn there stamp homes old
 
   abbrev Plan_of : ℕ → ℕ → Sector → Type 0
-  Plan_of = IsOfTurn turn there (next_stamp stamp) (next_stamp (next_stamp stamp))
+  Plan_of = IsOfTransition turn there (next_stamp stamp) (next_stamp (next_stamp stamp))
 
   pub status_frames : Frames kind.Status (record { stamp = next_stamp stamp; content = turn.status.now })
   status_frames = record { some_epoch = may.epoch; epoch = may.bound; some_seq = λ e. absurd (zero_is e); seq = (let n = may.numbers in omega (arith, n)); content = may.records.status_fits }
@@ -184,7 +184,7 @@ module _ (turn : Turn) (there : Disks) (stamp : Stamp) (homes : Homes) (old : De
     status_no_more before = status_finds turn.was.now turn.next.now before.0 turn.told.now turn.status.now there stamp homes old sectors status_frames status_reads m (last-path leaves.moments) before.2
 
     -- it was broken off
-    pub broken_off : (result : Turned) → TurnEnds turn Before there (next_stamp (next_stamp stamp)) homes slots number p old m result → TurnGives turn there stamp homes slots number p q old m result
+    pub broken_off : (result : TransitionEnd) → IsTransitionEnd turn Before there (next_stamp (next_stamp stamp)) homes slots number p old m result → TransitionGives turn there stamp homes slots number p q old m result
     broken_off result ends = record {
       ends = ends;
       keeps = status_keeps;
@@ -222,8 +222,8 @@ module _ (turn : Turn) (there : Disks) (stamp : Stamp) (homes : Homes) (old : De
         status_opens turn.was.now turn.next.now before.0 turn.told.now turn.status.now there stamp homes old sectors status_frames status_reads slots m failed number buf each leaves.keeps may.leaves may.change before.2,
       )
 
-      module _ (final : Homes) (r : ℕ) (new : Device) (result : Turned) (two : DescriptionGives turn set (next_stamp stamp) slots final buf.number q r m new result) where
-        rest_of_turn : (d s : ℕ) (value : Sector) → IsOfTurn turn set (next_stamp stamp) (next_stamp (next_stamp stamp)) d s value → Plan_of d s value
+      module _ (final : Homes) (r : ℕ) (new : Device) (result : TransitionEnd) (two : DescriptionGives turn set (next_stamp stamp) slots final buf.number q r m new result) where
+        rest_of_turn : (d s : ℕ) (value : Sector) → IsOfTransition turn set (next_stamp stamp) (next_stamp (next_stamp stamp)) d s value → Plan_of d s value
         rest_of_turn d s value its = record {
           write = its.write;
           frames = its.frames;
@@ -239,7 +239,7 @@ module _ (turn : Turn) (there : Disks) (stamp : Stamp) (homes : Homes) (old : De
         other_kind : kind.Descriptor ≡ kind.Status → ⊥
         other_kind e = absurd cc
 
-        turn_ends : (x : Turned) → TurnEnds turn (IsBetween turn set (next_stamp stamp) slots m) set (next_stamp (next_stamp stamp)) slots final buf.number q m new x → TurnEnds turn Before there (next_stamp (next_stamp stamp)) homes final number p old new x
+        turn_ends : (x : TransitionEnd) → IsTransitionEnd turn (IsBetween turn set (next_stamp stamp) slots m) set (next_stamp (next_stamp stamp)) slots final buf.number q m new x → IsTransitionEnd turn Before there (next_stamp (next_stamp stamp)) homes final number p old new x
         turn_ends (turned.Done written back) ends = (
           back_then there set (has written) number old m new buf back (path_counts two.kept) status_comes ends.0,
           record {
@@ -260,10 +260,10 @@ module _ (turn : Turn) (there : Disks) (stamp : Stamp) (homes : Homes) (old : De
         turn_ends turned.Dark ends = darkened_then number buf.number old m new status_comes.number_is status_comes.cuts ends
         turn_ends turned.Stuck ends = given_up_then number buf.number p q old m new status_comes.number_is status_comes.cuts leaves.spends ends
 
-        pub turned_on : TurnGives turn there stamp homes final number p r old new result
+        pub turned_on : TransitionGives turn there stamp homes final number p r old new result
         turned_on = record {
           ends = turn_ends result two.ends;
-          keeps = keeps_then there Plan_of old m new status_keeps (keeps_wider set there (IsOfTurn turn set (next_stamp stamp) (next_stamp (next_stamp stamp))) Plan_of m new outside rest_of_turn two.keeps);
+          keeps = keeps_then there Plan_of old m new status_keeps (keeps_wider set there (IsOfTransition turn set (next_stamp stamp) (next_stamp (next_stamp stamp))) Plan_of m new outside rest_of_turn two.keeps);
           spends = spends_then p q r old m new leaves.spends two.spends;
           kept = append-path status_path (map-path (λ d. Before → StaysKept old d) (λ d stays before facts kept. stays (between before) facts (last-path status_path before facts kept)) two.kept);
           finds = λ before. then_more turn.next.now old m new (λ was is. ChangesBy (IsOfRecord ws) (image_of old.sizes was) (image_of m.sizes is)) leaves.keeps.media (status_no_more before) (two.finds (between before));

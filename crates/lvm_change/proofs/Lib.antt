@@ -2,4 +2,4 @@ pub mod DescribeLemmas
 pub mod PartingLemmas
 pub mod RefusingLemmas
 pub mod SievingLemmas
-pub mod TurnLemmas
+pub mod TransitionLemmas

@@ -1,3 +1,3 @@
 pub mod Parting
 pub mod Rule
-pub mod Turn
+pub mod Transition

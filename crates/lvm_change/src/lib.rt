@@ -7,4 +7,4 @@ mod turn;
 
 pub use parting::part_with;
 pub use rule::{FewVotes, as_big, few_votes_for, with_quorum};
-pub use turn::{Turn, Turned, next_stamp, turn_over, without};
+pub use turn::{Transition, TransitionEnd, next_stamp, make_transition, without};

@@ -5,7 +5,7 @@ ghost use Rattle.lvm_num.specs.Disks.{has};
 ghost use Rattle.lvm_num.specs.Votes.{votes_in, total_votes, is_enough_to_write, CanWrite};
 ghost use Rattle.lvm_write.specs.Written.{written_well};
 ghost use Rattle.lvm_commit.specs.Committed.{next_stamp};
-ghost use Rattle.lvm_change.specs.Turn.{MayTurn, MayDescribe, IsByBoth, TurnGives, DescriptionGives};
+ghost use Rattle.lvm_change.specs.Transition.{MayMakeTransition, MayDescribe, IsByBoth, TransitionGives, DescriptionGives};
 
 use lvm_disk::Shelf;
 use lvm_num::{DISKS, Descriptor, DiskSet, Kind, Pbuf, Stamp, Status};
@@ -15,7 +15,7 @@ use lvm_write::{Wrote, write_record};
 
 /// The two records of a turn, as bytes, and what they say. A record counts as written by the votes of both descriptors.
 #[derive(Clone, Copy)]
-pub struct Turn<'a> {
+pub struct Transition<'a> {
     /// The descriptor that is committed.
     pub was: &'a Descriptor,
     /// The one to which the group turns.
@@ -30,7 +30,7 @@ pub struct Turn<'a> {
 
 /// How a turn ended.
 #[derive(Drop)]
-pub enum Turned {
+pub enum TransitionEnd {
     /// Both records stand on these disks, which have votes enough to write by both descriptors.
     Done {
         written: DiskSet,
@@ -51,17 +51,17 @@ pub enum Turned {
 
 /// Writes the status to the members that aren't missing, and then the descriptor to those that have it, under the next two
 /// stamps. Each of the two counts by the votes of both descriptors. It takes no memory.
-pub fn turn_over<S: Shelf>(
+pub fn make_transition<S: Shelf>(
     shelf: &mut S,
-    turn: Turn<'_>,
+    turn: Transition<'_>,
     stamp: Stamp,
     there: DiskSet,
     homes: &mut Homes,
     buf: Pbuf,
     patience: &mut Patience,
-) -> Turned
-    requires may { MayTurn turn (has there) stamp (S.device shelf.old) }
-    ensures { TurnGives turn.entry (has there) stamp homes.old homes.new buf.number patience.old.left patience.new.left (S.device shelf.old) (S.device shelf.new) result }
+) -> TransitionEnd
+    requires may { MayMakeTransition turn (has there) stamp (S.device shelf.old) }
+    ensures { TransitionGives turn.entry (has there) stamp homes.old homes.new buf.number patience.old.left patience.new.left (S.device shelf.old) (S.device shelf.new) result }
 {
     let first = next_stamp(stamp);
     match write_record(
@@ -78,26 +78,26 @@ pub fn turn_over<S: Shelf>(
             let written = without(there, failed);
             describe(shelf, turn, first, written, homes, buf, patience)
         }
-        Wrote::Dark => Turned::Dark,
-        Wrote::Stuck => Turned::Stuck,
+        Wrote::Dark => TransitionEnd::Dark,
+        Wrote::Stuck => TransitionEnd::Stuck,
     }
 }
 
 // Where the disks that have the status have votes enough, writes the descriptor to them.
 fn describe<S: Shelf>(
     shelf: &mut S,
-    turn: Turn<'_>,
+    turn: Transition<'_>,
     stamp: Stamp,
     there: DiskSet,
     homes: &mut Homes,
     buf: Pbuf,
     patience: &mut Patience,
-) -> Turned
+) -> TransitionEnd
     requires may { MayDescribe turn (has there) stamp (S.device shelf.old) }
     ensures { DescriptionGives turn.entry (has there) stamp homes.old homes.new buf.number patience.old.left patience.new.left (S.device shelf.old) (S.device shelf.new) result }
 {
     match by_votes(turn, there, buf) {
-        Turned::Done { written, buf } => {
+        TransitionEnd::Done { written, buf } => {
             put_descriptor(shelf, turn, stamp, written, homes, buf, patience)
         }
         stopped => stopped,
@@ -107,13 +107,13 @@ fn describe<S: Shelf>(
 // Writes the descriptor to disks that have votes enough.
 fn put_descriptor<S: Shelf>(
     shelf: &mut S,
-    turn: Turn<'_>,
+    turn: Transition<'_>,
     stamp: Stamp,
     there: DiskSet,
     homes: &mut Homes,
     buf: Pbuf,
     patience: &mut Patience,
-) -> Turned
+) -> TransitionEnd
     requires may { MayDescribe turn (has there) stamp (S.device shelf.old) }
     requires was { CanWrite turn.was.now (has there) }
     requires next { CanWrite turn.next.now (has there) }
@@ -130,32 +130,32 @@ fn put_descriptor<S: Shelf>(
         patience,
     ) {
         Wrote::Ended { failed, buf } => by_votes(turn, without(there, failed), buf),
-        Wrote::Dark => Turned::Dark,
-        Wrote::Stuck => Turned::Stuck,
+        Wrote::Dark => TransitionEnd::Dark,
+        Wrote::Stuck => TransitionEnd::Stuck,
     }
 }
 
 // Whether disks have votes enough to write by both descriptors.
-fn by_votes(turn: Turn<'_>, written: DiskSet, buf: Pbuf) -> Turned
+fn by_votes(turn: Transition<'_>, written: DiskSet, buf: Pbuf) -> TransitionEnd
     requires was { IsValid turn.was.now }
     requires next { IsValid turn.next.now }
     ensures { IsByBoth turn.entry.was.now turn.entry.next.now (has written) buf result }
 {
     match few_votes(turn.was, written) {
-        Some((have, total)) => Turned::WentOff {
+        Some((have, total)) => TransitionEnd::WentOff {
             have,
             total,
             written,
             buf,
         },
         None => match few_votes(turn.next, written) {
-            Some((have, total)) => Turned::WentOff {
+            Some((have, total)) => TransitionEnd::WentOff {
                 have,
                 total,
                 written,
                 buf,
             },
-            None => Turned::Done { written, buf },
+            None => TransitionEnd::Done { written, buf },
         },
     }
 }

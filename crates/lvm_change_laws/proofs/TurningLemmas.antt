@@ -19,7 +19,7 @@ use Rattle.lvm_kept.proofs.ChangesLemmas.Entries.{volume_is_row}
 use Rattle.lvm_kept.proofs.ChangesLemmas.Restamping.{fewer_blocks}
 use Rattle.lvm_kept.proofs.KeptLemmas.{same_block}
 use Rattle.lvm_change_votes.proofs.MeetingLemmas.{lasting_meets}
-use Rattle.lvm_change_laws.specs.Turning.{AreTwo, FindsTwo, ReadsTwo, DoesFor, Served, TurnKeeps, TurnIsDone, ReadsAreTwo}
+use Rattle.lvm_change_laws.specs.Turning.{AreTwo, FindsTwo, ReadsTwo, DoesFor, Served, TransitionKeeps, TurnIsDone, ReadsAreTwo}
 use Rattle.lvm_change_laws.proofs.Words.{filter_same, newest_looked}
 
 not-itself : (a : Stamp) → stamp_lt a a ≡ true → ⊥
@@ -482,7 +482,7 @@ module _ (old : Contents) (shown : ℕ → Option (Stamped Descriptor)) (g h : D
         };
       }
 
-pub turn_keeps : TurnKeeps
+pub turn_keeps : TransitionKeeps
 turn_keeps old new facts g h targets next was is within within_new may kept =
     let shown : ℕ → Option (Stamped Descriptor) = new.descriptor in
     let now : Contents = record old { descriptor = shown } in

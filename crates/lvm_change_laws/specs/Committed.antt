@@ -28,7 +28,7 @@ CommittedServes = (c : Contents) (group : Descriptor) (status : Status) (there :
 
 -- Disks that had the next descriptor before any other was written: enough of them to write by both descriptors, the members by the next one among them with its
 -- status and the sectors that they need.
-pub record HasTurned (c : Contents) (g h : Descriptor) (written there : Disks) (next : Stamped Descriptor) (status : Status) (stands : Stamped Status) : Type 0 where
+pub record HasChanged (c : Contents) (g h : Descriptor) (written there : Disks) (next : Stamped Descriptor) (status : Status) (stands : Stamped Status) : Type 0 where
   pub two : AreTwo g h
   pub value : next.value ≡ h
   pub finds : FindsTwo c g h
@@ -47,7 +47,7 @@ pub record HasTurned (c : Contents) (g h : Descriptor) (written there : Disks) (
 -- Then the next descriptor is the committed one.
 abbrev pub TurnIsCommitted : Type 0
 TurnIsCommitted = (c : Contents) (g h : Descriptor) (written there : Disks) (next : Stamped Descriptor) (status : Status) (stands : Stamped Status)
-    → IsWithinDisks c → HasTurned c g h written there next status stands → ShowsCommitted c h status there
+    → IsWithinDisks c → HasChanged c g h written there next status stands → ShowsCommitted c h status there
 
 -- ---- a disk that has left
 

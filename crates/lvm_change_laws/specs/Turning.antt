@@ -66,7 +66,7 @@ pub record Served (c : Contents) (facts : List Fact) (g : Descriptor) (was is : 
 
 -- What lets the second of the two be written to disks that show the group, or to one that is to be a member and shows no group, also where it was written to
 -- some of them before.
-pub record MayTurn (old new : Contents) (facts : List Fact) (g h : Descriptor) (targets : Disks) (next : Stamped Descriptor) (was is : Stamped Status) : Type 0 where
+pub record MayMakeTransition (old new : Contents) (facts : List Fact) (g h : Descriptor) (targets : Disks) (next : Stamped Descriptor) (was is : Stamped Status) : Type 0 where
   pub two : AreTwo g h
   pub value : next.value ≡ h
   pub change : DescriptorsChange targets next old new
@@ -79,9 +79,9 @@ pub record MayTurn (old new : Contents) (facts : List Fact) (g h : Descriptor) (
   pub reads : (d : ℕ) → new.descriptor d ≡ Some next → CanRead h (members_in new all_disks g.id h)
 
 -- Whatever of it has landed keeps the history, still nothing else is found of the group, and of others what was found.
-abbrev pub TurnKeeps : Type 0
-TurnKeeps = (old new : Contents) (facts : List Fact) (g h : Descriptor) (targets : Disks) (next : Stamped Descriptor) (was is : Stamped Status)
-    → IsWithinDisks old → IsWithinDisks new → MayTurn old new facts g h targets next was is → Kept old facts
+abbrev pub TransitionKeeps : Type 0
+TransitionKeeps = (old new : Contents) (facts : List Fact) (g h : Descriptor) (targets : Disks) (next : Stamped Descriptor) (was is : Stamped Status)
+    → IsWithinDisks old → IsWithinDisks new → MayMakeTransition old new facts g h targets next was is → Kept old facts
     → Kept new facts × FindsTwo new g h × LeavesOthers old new g.id
 
 -- ---- once it is written

@@ -1,5 +1,5 @@
 //! Laws of a change of members. Each call does nothing: its contract is the law.
-ghost use Rattle.lvm_change_laws.specs.Turning.{ValidAreTwo, TurnKeeps, StateTurnKeeps, TurnIsDone, ReadsAreTwo};
+ghost use Rattle.lvm_change_laws.specs.Turning.{ValidAreTwo, TransitionKeeps, StateTurnKeeps, TurnIsDone, ReadsAreTwo};
 ghost use Rattle.lvm_change_laws.specs.Rule.{RuleIsChange, ChangeOpens, StatusesLeaveOpen, RerowedMayFollow, TurnWriteKeeps, TurnIsHeld, TurnIsShown};
 ghost use Rattle.lvm_change_laws.specs.Committed.{CommittedIsRead, CommittedServes, TurnIsCommitted, ErasingKeeps};
 ghost use Rattle.lvm_change_laws.specs.Examples.{ThirdsMayBeErased};
@@ -8,7 +8,7 @@ ghost use Rattle.lvm_change_laws.specs.Examples.{ThirdsMayBeErased};
 /// nothing else of the group is found.
 pub fn turning_keeps()
     ensures two { ValidAreTwo }
-    ensures keeps { TurnKeeps }
+    ensures keeps { TransitionKeeps }
     ensures states { StateTurnKeeps }
     ensures done { TurnIsDone }
     ensures statuses { ReadsAreTwo }

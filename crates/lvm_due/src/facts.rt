@@ -17,7 +17,7 @@ use crate::below::{Open, Session};
 use crate::held::is_held_back;
 use crate::judged::{is_kept, is_marked};
 use crate::pending::is_pending;
-use crate::standing::{are_targets, copies_for, group_in, group_of, is_usable, mode_of, place_aim};
+use crate::standing::{are_targets, copies_for, group_in, group_of, is_usable, mode_of, destination_aim};
 use lvm_num::{Mode, Pp};
 use lvm_path::{Ask, Facts, Next, Phase, Request, Target};
 
@@ -97,7 +97,7 @@ pub fn is_changed(session: &Session, request: &Request) -> bool
             session,
             group_in(session, &request.ask),
             copies_for(session, &request.ask),
-            place_aim(session, &request.ask),
+            destination_aim(session, &request.ask),
             &request.targets,
         )
 }

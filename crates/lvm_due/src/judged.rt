@@ -18,7 +18,7 @@ pub fn counts_failed(session: &Session, target: &Target) -> bool
         || target.usable && is_wanted_stale(session, target.pp)
 }
 
-/// Whether a target is sure, and no place to which a copy moves.
+/// Whether a target is sure, and no destination of a move.
 pub fn is_sure_at(session: &Session, target: &Target) -> bool
     ensures { result ≡ is_sure_at (core_of session.now) target.now }
 {

@@ -59,7 +59,7 @@ fn is_under_way(session: &Session, copy: &OpenCopy) -> bool
     false
 }
 
-/// Whether all of it is copied, its place is fresh by each status, and nothing is under way on its logical
+/// Whether all of it is copied, its destination is fresh by each status, and nothing is under way on its logical
 /// partition.
 pub fn is_move_done(session: &Session, copy: &OpenCopy) -> bool
     ensures { result ≡ is_move_done (core_of session.now) copy.now }

@@ -149,8 +149,8 @@ pub fn is_beside_copy(session: &Session, ask: &Ask, copy: &OpenCopy) -> bool
     ask.lv() == copy.lv && lp_of(session, ask) == u64::from(copy.lp)
 }
 
-/// The place to which a copy of its logical partition moves, also once the move has ended.
-pub fn place_for(session: &Session, ask: &Ask) -> Option<Pp>
+/// The destination of a move of its logical partition, also once the move has ended.
+pub fn destination_for(session: &Session, ask: &Ask) -> Option<Pp>
     ensures { destinations_for (core_of session.now) ask.now ≡ option_map_or (λ (p : Pp). p ∷ []) result [] }
 {
     match &session.copy {
@@ -165,8 +165,8 @@ pub fn place_for(session: &Session, ask: &Ask) -> Option<Pp>
     }
 }
 
-/// That place, where the move runs and has passed its track group: a write goes there too.
-pub fn place_aim(session: &Session, ask: &Ask) -> Option<Pp>
+/// That destination, where the move runs and has passed its track group: a write goes there too.
+pub fn destination_aim(session: &Session, ask: &Ask) -> Option<Pp>
     requires { IsTrue (is_size session.now.descriptor.mib) }
     ensures { destination_aims (core_of session.now) ask.now ≡ option_map_or (λ (p : Pp). p ∷ []) result [] }
 {
@@ -185,7 +185,7 @@ pub fn place_aim(session: &Session, ask: &Ask) -> Option<Pp>
     }
 }
 
-// Whether these targets are the place alone, or none where there is none.
+// Whether these targets are the destination alone, or none where there is none.
 #[tactic(auto, using(crate::proofs::FactsJudgingLemmas::same_as_none))]
 fn are_last(targets: &[Target], place: Option<Pp>) -> bool
     ensures { result ≡ same_pps (pps_of targets.now) (option_map_or (λ (p : Pp). p ∷ []) place []) }

@@ -4,13 +4,13 @@ ghost use Rattle.lvm_num.specs.Descriptor.{IsValid};
 ghost use Rattle.lvm_path.specs.Asks.{at_of};
 ghost use Rattle.lvm_session.specs.Fields.{core_of};
 ghost use Rattle.lvm_session.specs.Judging.{IsWithinVolume, copies_for, is_changed, destinations_for};
-ghost use Rattle.lvm_session.specs.Left.{begun_left, if_so, is_brought_up, is_held, lacks_dirty, lacks_note, phase_left, place_turns, turns_of, unbegun_left, waiting_targets, write_left};
+ghost use Rattle.lvm_session.specs.Left.{begun_left, if_so, is_brought_up, is_held, lacks_dirty, lacks_note, phase_left, destination_turns, turns_of, unbegun_left, waiting_targets, write_left};
 ghost use Rattle.lvm_session.specs.Requests.{IsLaid};
 
 use crate::below::is_changed;
 use crate::facts_places::is_pp;
 use crate::standing::{
-    copies_for, group_of, is_missing, is_running, is_settled, is_usable, mode_of, place_for,
+    copies_for, group_of, is_missing, is_running, is_settled, is_usable, mode_of, destination_for,
 };
 use lvm_num::{Mode, Pp};
 use lvm_path::{Phase, Request, Target, are_over};
@@ -121,12 +121,12 @@ fn all_turns(session: &Session, pps: &[Pp]) -> u64
     turns
 }
 
-// So may the place to which a copy of its logical partition moves.
-fn place_turns(session: &Session, request: &Request) -> u64
-    ensures is { result ≡ sum_by (place_turns (core_of session.now)) (destinations_for (core_of session.now) request.now.ask) }
+// So may the destination of a move of its logical partition.
+fn destination_turns(session: &Session, request: &Request) -> u64
+    ensures is { result ≡ sum_by (destination_turns (core_of session.now)) (destinations_for (core_of session.now) request.now.ask) }
     ensures few { result ≤ 46 }
 {
-    match place_for(session, &request.ask) {
+    match destination_for(session, &request.ask) {
         None => 0,
         Some(pp) => {
             if !is_missing(session, pp.disk) && is_brought_up(session, pp) {
@@ -165,7 +165,7 @@ fn unbegun_left(session: &Session, request: &Request) -> u64
     ensures few { result ≤ 1024 }
 {
     256 + all_turns(session, copies_for(session, &request.ask))
-        + place_turns(session, request)
+        + destination_turns(session, request)
         + if_so(lacks_dirty(session, request), 256)
         + if_so(is_stray(session, request), 12)
         + phase_left(session, request)

@@ -38,7 +38,7 @@ use Rattle.lvm_num.specs.Modes.{is_passive}
 use Rattle.lvm_num.proofs.Booleans.{not_so}
 use Rattle.lvm_session.specs.Marks.{WantsDirty, WantsDirtyIf}
 use Rattle.lvm_keeps.proofs.LeftLemmas.Updates.{open_at}
-use Rattle.lvm_session.specs.Left.{begun_left, copy_left, if_so, is_brought_up, is_held, lacks_dirty, lacks_note, left_of, phase_left, read_left, request_left, status_left, place_turns, turns_of, unbegun_left, update_work, waiting_targets, work_left, write_left}
+use Rattle.lvm_session.specs.Left.{begun_left, copy_left, if_so, is_brought_up, is_held, lacks_dirty, lacks_note, left_of, phase_left, read_left, request_left, status_left, destination_turns, turns_of, unbegun_left, update_work, waiting_targets, work_left, write_left}
 use Rattle.lvm_session.specs.Requests.{IsPhase}
 use Rattle.lvm_session.specs.Sound.{IsSound}
 use Rattle.lvm_keeps.proofs.LeftLemmas.Leaving.{left_same, lit}
@@ -92,7 +92,7 @@ module _ (core : Core) (place : ℕ) (o : Open) (there : slice_get core.requests
 
   -- what is left of it beside its phase
   abbrev beside : ℕ
-  beside = update_work + sum_by (turns_of core) (copies_for core o.request.ask) + sum_by (place_turns core) (destinations_for core o.request.ask) + if_so (lacks_dirty core o.request.ask) update_work
+  beside = update_work + sum_by (turns_of core) (copies_for core o.request.ask) + sum_by (destination_turns core) (destinations_for core o.request.ask) + if_so (lacks_dirty core o.request.ask) update_work
 
   no_note : (ts : List Target) → count_by (lacks_note after made.request) ts ≡ 0
   no_note [] = refl
@@ -214,7 +214,7 @@ module _ (s : State) (sound : IsSound s) (on : s.core.power ≡ power.On) (place
       ap (λ (b : Bool). if b then 0 else if is_usable between p then (if is_brought_up core p then 34 else 22) else if is_brought_up core p then 46 else if is_settled core p then 0 else 34) (missing_so p.disk)
       ∙ ap (λ (b : Bool). if is_missing core p.disk then 0 else if b then (if is_brought_up core p then 34 else 22) else if is_brought_up core p then 46 else if is_settled core p then 0 else 34) (usable_so p)
 
-  place_turns_so : (p : Pp) → place_turns between p ≡ place_turns core p
+  place_turns_so : (p : Pp) → destination_turns between p ≡ destination_turns core p
   place_turns_so p = ap (λ (b : Bool). if not b && is_brought_up core p then 46 else 0) (missing_so p.disk)
 
   pub aims_so : (ask : Ask) → aims between ask ≡ aims core ask
@@ -248,7 +248,7 @@ module _ (s : State) (sound : IsSound s) (on : s.core.power ≡ power.On) (place
   unbegun_less : (r : Request) → unbegun_left between r ≤ unbegun_left core r
   unbegun_less r =
       let turns = sum_same (turns_of core) (turns_of between) turns_so (copies_for core r.ask) in
-      let place = sum_same (place_turns core) (place_turns between) place_turns_so (destinations_for core r.ask) in
+      let place = sum_same (destination_turns core) (destination_turns between) place_turns_so (destinations_for core r.ask) in
       let dirty = dirty_less r.ask in
       let changed_now : if_so (not (is_held r.phase) && is_changed between r) 12 ≡ if_so (not (is_held r.phase) && is_changed core r) 12 = ap (λ b. if_so (not (is_held r.phase) && b) 12) (changed_so r) in
       let phases = phase_so r.phase r in
@@ -269,7 +269,7 @@ module _ (s : State) (sound : IsSound s) (on : s.core.power ≡ power.On) (place
       let new = is_left between in
       let old = is_left core in
       let turns = sum_same (turns_of core) (turns_of between) turns_so (copies_for core o.request.ask) in
-      let place_so = sum_same (place_turns core) (place_turns between) place_turns_so (destinations_for core o.request.ask) in
+      let place_so = sum_same (destination_turns core) (destination_turns between) place_turns_so (destinations_for core o.request.ask) in
       let changed_now : if_so (not (is_held o.request.phase) && is_changed between o.request) 12 ≡ if_so (not (is_held o.request.phase) && is_changed core o.request) 12 = ap (λ b. if_so (not (is_held o.request.phase) && b) 12) (changed_so o.request) in
       let phases = phase_so o.request.phase o.request in
       let was : if_so (lacks_dirty core o.request.ask) update_work ≡ 256 = ap (λ b. if_so (b && not (calls_dirty core.status.wanted (lv_of o.request.ask))) update_work) (passive_so s sound on place o there admits targets order chooses status makes wants) ∙ ap (λ b. if_so (not b) update_work) (clean s sound on place o there admits targets order chooses status makes wants) in

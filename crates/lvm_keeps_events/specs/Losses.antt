@@ -29,7 +29,7 @@ has_failed_on core p = list_any (fails_on p) core.requests
 abbrev pub is_open_at : Core → Pp → Bool
 is_open_at core p = option_map_or (λ (c : OpenCopy). is_pp p c.pp) core.copy false
 
--- A copy (the place to which one moves is none) comes to be marked only where its disk is missing or a write has failed on it, and a write to have failed on it only by a fault of its disk. What
+-- A copy (the destination of a move is none) comes to be marked only where its disk is missing or a write has failed on it, and a write to have failed on it only by a fault of its disk. What
 -- is stale by all three stays so, but for the copy that is open. A missing disk stays missing.
 pub record MarksFor (old new : State) : Type 0 where
   pub marked : (p : Pp) → is_destination old.core p ≡ false → is_marked new.core p ≡ true → (is_marked old.core p ≡ true) ⊎ (is_missing new.core p.disk ≡ true) ⊎ (has_failed_on new.core p ≡ true)

@@ -16,11 +16,11 @@ use Rattle.lvm_session.specs.Sound.{IsSound}
 use Rattle.lvm_session.specs.Worked.{Moment, Says, a_write, asking, core_of, first_copy, fresh, held_write, second_copy, target_on}
 use Rattle.lvm_session.specs.WorkedMoves.{moving_to, on_destination, destination_stale, third_fails}
 
--- it has failed on the place
+-- it has failed on the destination
 abbrev pub destination_failed : Target
 destination_failed = on_destination stage.Failed
 
--- It is done on both copies and has failed on the place, by which the move has ended.
+-- It is done on both copies and has failed on the destination, by which the move has ended.
 abbrev pub missed_write : Open
 missed_write = asking 1 a_write phase.WantStatus (target_on first_copy stage.Done ∷ target_on second_copy stage.Done ∷ destination_failed ∷ [])
 
@@ -31,8 +31,8 @@ missing_moment wanted = record (held_write mode.Off) { wanted = wanted; requests
 abbrev pub missing : Says → State
 missing wanted = state third_fails (core_of (missing_moment wanted))
 
--- It is sound where staleness of the place is wanted, and the status is written next; where none is, nothing could ever be made of it, and it isn't sound. The
--- move, though it has ended, is told as running while the write goes to its place.
+-- It is sound where staleness of the destination is wanted, and the status is written next; where none is, nothing could ever be made of it, and it isn't sound. The
+-- move, though it has ended, is told as running while the write goes to its destination.
 pub record MissedWritesWait : Type 0 where
   pub sound : IsSound (missing destination_stale)
   pub next : first_event (missing destination_stale).core ≡ Some event.StartStatus

@@ -20,7 +20,7 @@ pub fn never_stands_still()
     ensures { NeverStandsStill }
 {}
 
-/// A session with a write that has failed on the place to which a copy moved is sound while staleness of the place is
+/// A session with a write that has failed on the destination of a move is sound while staleness of that is
 /// wanted, and writes the status next. Where none is wanted it would stand still, and isn't sound.
 pub fn missed_writes_wait()
     ensures { MissedWritesWait }

@@ -22,7 +22,7 @@ use Rattle.lvm_path.specs.declared.request.Request.{Request}
 use Rattle.lvm_path.specs.Asks.{is_write}
 use Rattle.lvm_path.specs.Targets.{is_begun}
 use Rattle.lvm_session.specs.Judging.{copies_for, is_changed, is_waiting, destinations_for}
-use Rattle.lvm_session.specs.Left.{begun_left, copy_left, if_so, is_held, lacks_dirty, left_by, left_of, phase_left, read_left, request_left, status_left, place_turns, turns_of, update_work, work_left}
+use Rattle.lvm_session.specs.Left.{begun_left, copy_left, if_so, is_held, lacks_dirty, left_by, left_of, phase_left, read_left, request_left, status_left, destination_turns, turns_of, update_work, work_left}
 use Rattle.lvm_session.specs.State.{Core, State, is_there}
 use Rattle.lvm_session.specs.Turns.{Finds, FindsNothing}
 use Rattle.lvm_driver.specs.passed.Going.{RunsOn}
@@ -65,7 +65,7 @@ module _ (core : Core) (place id : ℕ) (o : Open) (within : place < length core
   phase_same phase.Landed r = refl
 
   abbrev beside_phase : Request → ℕ
-  beside_phase r = update_work + sum_by (turns_of core) (copies_for core r.ask) + sum_by (place_turns core) (destinations_for core r.ask) + if_so (lacks_dirty core r.ask) update_work + if_so (not (is_held r.phase) && is_changed core r) 12
+  beside_phase r = update_work + sum_by (turns_of core) (copies_for core r.ask) + sum_by (destination_turns core) (destinations_for core r.ask) + if_so (lacks_dirty core r.ask) update_work + if_so (not (is_held r.phase) && is_changed core r) 12
 
   request_same : (q : Open) → request_left (after_take core place id) q ≡ request_left core q
   request_same q = ap (λ (n : ℕ). if_so (is_waiting q) (cond (is_write q.request.ask) (cond (is_begun q.request.targets.items) (begun_left q.request) (beside_phase q.request + n)) (read_left q.request.phase q.request)))

@@ -22,7 +22,7 @@ use Rattle.lvm_session.specs.declared.answers.OpenFault.TheVariants as denial
 use Rattle.lvm_session.specs.declared.bringing.OpenCopy.{OpenCopy}
 use Rattle.lvm_session.specs.declared.open.Power.{Power}
 use Rattle.lvm_session.specs.declared.open.Power.TheVariants as power
-use Rattle.lvm_session.specs.Calls.{OpenMoveGives, OpensMove, copy_at, has_numbers, is_in_use, move_fault, move_refusal_at, move_refusal_in, move_refusal_on, move_refusal_when}
+use Rattle.lvm_session.specs.Calls.{OpenMoveGives, OpensMove, copy_at, has_numbers, is_in_use, move_fault, move_fault_at, move_fault_in, move_fault_on, move_fault_when}
 use Rattle.lvm_session.specs.Judging.{copies_in, is_missing, is_usable}
 use Rattle.lvm_session.specs.Marks.{is_among}
 use Rattle.lvm_session.specs.State.{Core}
@@ -126,14 +126,14 @@ module _ (core : Core) (m : PlannedMove) (valid : IsValid core.descriptor) (none
       ∙ ap not (lt-ltb m.to.pp it.inside.0.pps it.inside.2)
 
   -- while the session goes on it is for the second disk, the fresh copies or the numbers
-  pub on_is : move_refusal_on core m.copy.lv m.copy.lp m.copy.number m.to ≡ move_refusal_at core m.to those
+  pub on_is : move_fault_on core m.copy.lv m.copy.lp m.copy.number m.to ≡ move_fault_at core m.to those
   on_is =
-      ap (λ (o : Option OpenCopy). if is_some o then Some denial.Busy else option_map_or (λ (r : LvRow). move_refusal_in core r m.copy.lp m.copy.number m.to) (volume_of core.descriptor m.copy.lv) (Some denial.NoVolume)) none
-      ∙ ap (λ (o : Option LvRow). option_map_or (λ (r : LvRow). move_refusal_in core r m.copy.lp m.copy.number m.to) o (Some denial.NoVolume)) it.volume
-      ∙ ap (λ b. if b && is_some (copy_at those m.copy.number) then move_refusal_at core m.to those else Some denial.OutOfRange) (lt-ltb m.copy.lp row.lps it.within)
-      ∙ ap (λ b. if b then move_refusal_at core m.to those else Some denial.OutOfRange) (copy_there core.descriptor m valid it)
+      ap (λ (o : Option OpenCopy). if is_some o then Some denial.Busy else option_map_or (λ (r : LvRow). move_fault_in core r m.copy.lp m.copy.number m.to) (volume_of core.descriptor m.copy.lv) (Some denial.NoVolume)) none
+      ∙ ap (λ (o : Option LvRow). option_map_or (λ (r : LvRow). move_fault_in core r m.copy.lp m.copy.number m.to) o (Some denial.NoVolume)) it.volume
+      ∙ ap (λ b. if b && is_some (copy_at those m.copy.number) then move_fault_at core m.to those else Some denial.OutOfRange) (lt-ltb m.copy.lp row.lps it.within)
+      ∙ ap (λ b. if b then move_fault_at core m.to those else Some denial.OutOfRange) (copy_there core.descriptor m valid it)
 
-  against_at : (why : OpenFault) → move_refusal_at core m.to those ≡ Some why → StandsAgainstIt core m those why
+  against_at : (why : OpenFault) → move_fault_at core m.to those ≡ Some why → StandsAgainstIt core m those why
   against_at why e = by (is_in_use core m.to) (is_missing core m.to.disk) (list_any (is_usable core) those) (has_numbers core) unused refl refl refl e
     where
       so : (u : OpenFault) → Some u ≡ Some why → StandsAgainstIt core m those u → StandsAgainstIt core m those why
@@ -153,7 +153,7 @@ module _ (core : Core) (m : PlannedMove) (valid : IsValid core.descriptor) (none
       over : (u : OpenFault) → Some u ≡ Some why → StandsAgainstIt core m those u → StandsAgainstIt core m those why
       over u f its = let is : u ≡ why = cc f in subst (StandsAgainstIt core m those) is its
 
-      by : (p : Power) → core.power ≡ p → move_refusal_when p (move_refusal_on core m.copy.lv m.copy.lp m.copy.number m.to) ≡ Some why → StandsAgainstIt core m those why
+      by : (p : Power) → core.power ≡ p → move_fault_when p (move_fault_on core m.copy.lv m.copy.lp m.copy.number m.to) ≡ Some why → StandsAgainstIt core m those why
       by power.Dark is f = over denial.Dark f (SessionIsDark is)
       by power.Off is f = over denial.Off f (SessionIsOff is)
       by power.Stuck is f = against_at why (sym on_is ∙ f)

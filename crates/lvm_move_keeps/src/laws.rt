@@ -17,7 +17,7 @@ pub fn drained_moves_may_be_committed()
     ensures may { DoneMayCommit }
 {}
 
-/// A move tells that it is done only where it is: all of it is copied, its place is fresh, and nothing is under way on its
+/// A move tells that it is done only where it is: all of it is copied, its destination is fresh, and nothing is under way on its
 /// logical partition.
 pub fn done_is_judged()
     ensures { DoneIsJudged }

@@ -12,7 +12,7 @@ ghost use Rattle.lvm_moves.specs.Choosing.{IsThere, MayChoose};
 use arrayvec::ArrayVec;
 use lvm_disk::Shelf;
 use lvm_due::below::{copies_for, group_in, is_aim, is_usable, partition_blocks};
-use lvm_due::place_aim;
+use lvm_due::destination_aim;
 use lvm_num::Pp;
 use lvm_path::{Ask, Target};
 use lvm_sched::TargetState;
@@ -94,20 +94,20 @@ fn copy_aims<S: Shelf>(session: &Session, shelf: &S, ask: &Ask) -> ArrayVec<Targ
     targets
 }
 
-// The place to which a copy of its logical partition moves becomes a target, where that has passed the track group.
-fn aim_place<S: Shelf>(session: &Session, shelf: &S, ask: &Ask, targets: &mut ArrayVec<Target, 4>)
+// The destination of a move of its logical partition becomes a target, where the move has passed the track group.
+fn aim_destination<S: Shelf>(session: &Session, shelf: &S, ask: &Ask, targets: &mut ArrayVec<Target, 4>)
     requires may { MayChoose (S.device shelf.now) (core_of session.now) }
     requires room { length targets.old.items ≤ 3 }
     ensures targets { targets.new.items ≡ targets.old.items ++ map (destination_target (state (S.device shelf.now) (core_of session.now)) ask.now) (destination_aims (core_of session.now) ask.now) }
     ensures few { length targets.new.items ≤ 4 }
 {
-    if let Some(pp) = place_aim(session, ask) {
+    if let Some(pp) = destination_aim(session, ask) {
         targets.push(destination_target(session, shelf, ask, pp));
     }
 }
 
-/// The copies to which a write goes, as its targets, and then the place to which a copy of its logical partition
-/// moves, where that has passed the track group.
+/// The copies to which a write goes, as its targets, and then the destination of a move of its logical
+/// partition, where the move has passed the track group.
 pub fn aims<S: Shelf>(session: &Session, shelf: &S, ask: &Ask) -> ArrayVec<Target, 4>
     requires may { MayChoose (S.device shelf.now) (core_of session.now) }
     requires within { IsWithinVolume session.now.descriptor ask.now }
@@ -115,6 +115,6 @@ pub fn aims<S: Shelf>(session: &Session, shelf: &S, ask: &Ask) -> ArrayVec<Targe
     ensures few { length result.items ≤ 4 }
 {
     let mut targets = copy_aims(session, shelf, ask);
-    aim_place(session, shelf, ask, &mut targets);
+    aim_destination(session, shelf, ask, &mut targets);
     targets
 }

@@ -201,41 +201,41 @@ abbrev pub is_in_use : Core → Pp → Bool
 is_in_use core p = is_among (partitions_used core.descriptor) p || not (option_map_or (λ (row : PvRow). nat_lt p.pp row.pps) (member_of core.descriptor p.disk) false)
 
 -- why a copy of these doesn't move to this partition
-abbrev pub move_refusal_at : Core → Pp → List Pp → Option OpenFault
-move_refusal_at core to copies =
+abbrev pub move_fault_at : Core → Pp → List Pp → Option OpenFault
+move_fault_at core to copies =
     if is_in_use core to then Some denial.InUse
     else if is_missing core to.disk then Some (denial.Missing to.disk)
     else if not (list_any (is_usable core) copies) then Some denial.NoFresh
     else if has_numbers core then None else Some denial.HistoryFull
 
 -- why this copy of a logical partition of the volume doesn't
-abbrev pub move_refusal_in : Core → LvRow → ℕ → ℕ → Pp → Option OpenFault
-move_refusal_in core row lp number to =
-    if nat_lt lp row.lps && is_some (copy_at (copies_of row lp) number) then move_refusal_at core to (copies_of row lp) else Some denial.OutOfRange
+abbrev pub move_fault_in : Core → LvRow → ℕ → ℕ → Pp → Option OpenFault
+move_fault_in core row lp number to =
+    if nat_lt lp row.lps && is_some (copy_at (copies_of row lp) number) then move_fault_at core to (copies_of row lp) else Some denial.OutOfRange
 
 -- why it doesn't while the session goes on
-abbrev pub move_refusal_on : Core → ℕ → ℕ → ℕ → Pp → Option OpenFault
-move_refusal_on core lv lp number to =
+abbrev pub move_fault_on : Core → ℕ → ℕ → ℕ → Pp → Option OpenFault
+move_fault_on core lv lp number to =
     if is_some core.copy then Some denial.Busy
-    else option_map_or (λ (row : LvRow). move_refusal_in core row lp number to) (volume_of core.descriptor lv) (Some denial.NoVolume)
+    else option_map_or (λ (row : LvRow). move_fault_in core row lp number to) (volume_of core.descriptor lv) (Some denial.NoVolume)
 
 -- and where the session is over
-abbrev pub move_refusal_when : Power → Option OpenFault → Option OpenFault
-move_refusal_when power.Dark on = Some denial.Dark
-move_refusal_when power.Off on = Some denial.Off
-move_refusal_when power.Stuck on = on
-move_refusal_when power.On on = on
+abbrev pub move_fault_when : Power → Option OpenFault → Option OpenFault
+move_fault_when power.Dark on = Some denial.Dark
+move_fault_when power.Off on = Some denial.Off
+move_fault_when power.Stuck on = on
+move_fault_when power.On on = on
 
 -- why a copy isn't moved, if it isn't (but for want of memory)
 abbrev pub move_fault : Core → ℕ → ℕ → ℕ → Pp → Option OpenFault
-move_fault core lv lp number to = move_refusal_when core.power (move_refusal_on core lv lp number to)
+move_fault core lv lp number to = move_fault_when core.power (move_fault_on core lv lp number to)
 
 -- the partition counts as stale since the session began, and nothing else changes
 pub record CallsStale (p : Pp) (old new : Origin) : Type 0 where
   pub table : BecomesStale p old.table new.table
   pub faults : new.faults ≡ old.faults
 
--- A copy begins to move; its first step enters the queue, and its place counts as stale since the session began.
+-- A copy begins to move; its first step enters the queue, and its destination counts as stale since the session began.
 pub record OpensMove (counts : Counts) (old new : Core) (lv lp number : ℕ) (to : Pp) : Type 0 where
   pub row : LvRow
   pub volume : volume_of old.descriptor lv ≡ Some row
@@ -262,11 +262,11 @@ state_at_end c ending.SyncFailed = copy.SyncFailed c.pp.disk
 state_at_end c ending.NoFresh = copy.NoFresh
 state_at_end c ending.Ended = copy.Ended
 
--- a move that has ended, to whose place a request still goes
+-- a move that has ended, to whose destination a request still goes
 abbrev pub is_still_aimed : Core → OpenCopy → Bool
 is_still_aimed core c = c.moves && is_some c.end && is_aimed_at core c.pp
 
--- It is running until its own transfer has ended too, and until no request goes to the place to which it was to move. A move is done while it is whole, its place
+-- It is running until its own transfer has ended too, and until no request goes to its destination. A move is done while it is whole, its destination
 -- is fresh and nothing is under way on its logical partition.
 abbrev pub state_of_copy : Core → OpenCopy → CopyState
 state_of_copy core c =

@@ -136,7 +136,7 @@ is_destination core p = option_map_or (λ (c : OpenCopy). c.moves && is_pp p c.p
 abbrev pub is_beside_copy : Core → Ask → OpenCopy → Bool
 is_beside_copy core ask c = lv_of ask == c.lv && lp_of core ask == c.lp
 
--- that place, where the move is one of the request's logical partition, if this is so of it
+-- that partition, where the move is one of the request's logical partition, if this is so of it
 abbrev pub destinations_if : Bool → OpenCopy → List Pp
 destinations_if is c = if is then c.pp ∷ [] else []
 
@@ -217,7 +217,7 @@ is_past_held phase.Landed = false
 abbrev pub is_under_way : Core → OpenCopy → Bool
 is_under_way core c = list_any (λ (o : Open). is_waiting o && is_past_held o.request.phase && is_beside_copy core o.request.ask c) core.requests
 
--- All of it is copied, its place is fresh by each status, and nothing is under way on its logical partition; nothing is admitted there while it is so.
+-- All of it is copied, its destination is fresh by each status, and nothing is under way on its logical partition; nothing is admitted there while it is so.
 abbrev pub is_move_done : Core → OpenCopy → Bool
 is_move_done core c = c.moves && is_running c && is_whole core c && stays_fresh core c.pp && not (is_under_way core c)
 

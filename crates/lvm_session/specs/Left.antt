@@ -100,9 +100,9 @@ turns_of core p =
     else if is_brought_up core p then 46
     else if is_settled core p then 0 else 34
 
--- so may the place to which one moves
-abbrev pub place_turns : Core → Pp → ℕ
-place_turns core p = if not (is_missing core p.disk) && is_brought_up core p then 46 else 0
+-- so may the destination of a move
+abbrev pub destination_turns : Core → Pp → ℕ
+destination_turns core p = if not (is_missing core p.disk) && is_brought_up core p then 46 else 0
 
 -- its volume is passive, and a mark of it is still to be wanted
 abbrev pub lacks_dirty : Core → Ask → Bool
@@ -111,7 +111,7 @@ lacks_dirty core ask = is_passive (mode_of core ask) && not (calls_dirty core.st
 -- a write that hasn't started its data
 abbrev pub unbegun_left : Core → Request → ℕ
 unbegun_left core r =
-    update_work + sum_by (turns_of core) (copies_for core r.ask) + sum_by (place_turns core) (destinations_for core r.ask) + if_so (lacks_dirty core r.ask) update_work
+    update_work + sum_by (turns_of core) (copies_for core r.ask) + sum_by (destination_turns core) (destinations_for core r.ask) + if_so (lacks_dirty core r.ask) update_work
     + if_so (not (is_held r.phase) && is_changed core r) 12 + phase_left r.phase core r
 
 -- one that has

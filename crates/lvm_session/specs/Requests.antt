@@ -63,12 +63,12 @@ IsPhase phase.Landed o = ⊥
 
 -- ---- its targets
 
--- a copy of what the request goes over, or the place to which a copy of that moves, which only a write has
+-- a copy of what the request goes over, or the destination of a move of that, which only a write has
 abbrev pub IsAimed : Bool → Core → Ask → Target → Type 0
 IsAimed false core ask t = is_among (copies_for core ask) t.pp ≡ true
 IsAimed true core ask t = (is_among (destinations_for core ask) t.pp ≡ true) × (is_write ask ≡ true) × (t.usable ≡ false)
 
--- a copy of the request's blocks, or such a place, at its sector, on a disk that wasn't missing when the session began
+-- a copy of the request's blocks, or such a destination, at its sector, on a disk that wasn't missing when the session began
 pub record IsTarget (core : Core) (ask : Ask) (t : Target) : Type 0 where
   pub copy : IsAimed t.moves core ask t
   pub sector : t.sector ≡ sector_of core.descriptor.mib t.pp.pp (at_of ask)
@@ -140,7 +140,7 @@ is_wanted_due core r = nat_le (count_by (is_failed_and_sure core) r.targets.item
 abbrev pub is_missed : Core → Request → Target → Bool
 is_missed core r t = t.moves && (is_failed t.state || list_any (is_failed_and_sure core) r.targets.items)
 
--- then staleness of the place is wanted, unless it is stale
+-- then staleness of the destination is wanted, unless it is stale
 abbrev pub IsMarkedDestination : Core → Request → Target → Type 0
 IsMarkedDestination core r t = is_missed core r t && is_sure core t.pp ≡ false
 
@@ -156,7 +156,7 @@ is_left_out core ask p = is_settled core p && is_wanted_stale core p && not (is_
 pub record IsJudged (core : Core) (o : Open) : Type 0 where
   pub uncaught : AllByRecursion (λ (t : Target). may_lack o t && is_caught core (group_in core o.request.ask) t.pp ≡ false) o.request.targets.items
   pub due : wants_status o.request.phase ≡ true → is_wanted_due core o.request ≡ true
-  -- (a write that fails on the place ends the move by it, and waits then; nothing else would settle the staleness for which it waits)
+  -- (a write that fails on the destination ends the move by it, and waits then; nothing else would settle the staleness for which it waits)
   pub missed : wants_status o.request.phase ≡ true → AllByRecursion (IsMarkedDestination core o.request) o.request.targets.items
   pub all : is_begun o.request.targets.items ≡ true → (p : Pp) → is_among (copies_for core o.request.ask) p ≡ true → is_among (pps_of o.request.targets.items) p || is_left_out core o.request.ask p ≡ true
   -- and to the destination of a move, where that has passed the track group

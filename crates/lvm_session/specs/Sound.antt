@@ -171,8 +171,8 @@ pub record IsStaleCopy (core : Core) (c : OpenCopy) : Type 0 where
   pub clearing : is_running c ≡ true → is_whole core c ≡ true → (is_stale core c.pp ≡ true) × (is_wanted_stale core c.pp ≡ false)
 
 -- It is a copy of its logical partition that moves to a partition which no volume has, of a member on which no other copy of it stands; of that partition no
--- staleness is wanted once the move is whole. Some copy of the logical partition stays fresh, also once it has ended (without one a write that is done on the place
--- alone would wait for the staleness of the place, which nothing wants).
+-- staleness is wanted once the move is whole. Some copy of the logical partition stays fresh, also once it has ended (without one a write that is done on the destination
+-- alone would wait for the staleness of that, which nothing wants).
 pub record IsMove (core : Core) (c : OpenCopy) : Type 0 where
   pub from : Pp
   pub its : copy_at (copies_in core.descriptor c.lv c.lp) c.copy ≡ Some from

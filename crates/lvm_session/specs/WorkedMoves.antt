@@ -31,7 +31,7 @@ free_destination = record { disk = 2; pp = 0 }
 abbrev pub moving_to : ℕ → Option CopyEnd → OpenCopy
 moving_to cursor end = record (bringing_up cursor end) { pp = free_destination; moves = true }
 
--- since the opening the place counts as stale from the beginning on
+-- since the opening the destination counts as stale from the beginning on
 abbrev pub destination_stale : Says
 destination_stale = record fresh { place = true }
 
@@ -56,15 +56,15 @@ third_fails = record faultless { counts = record faultless.counts { faults = λ 
 
 -- ---- a write beside it
 
--- a target on the place
+-- a target on the destination
 abbrev pub on_destination : TargetState → Target
 on_destination how = record (target_on free_destination how) { usable = false; moves = true }
 
--- A write of the first block, whose track group the move has passed, is done on both copies, and its transfer to the place is out.
+-- A write of the first block, whose track group the move has passed, is done on both copies, and its transfer to the destination is out.
 abbrev pub write_along : Open
 write_along = asking 1 a_write phase.Data (target_on first_copy stage.Done ∷ target_on second_copy stage.Done ∷ on_destination stage.Flying ∷ [])
 
--- one that leaves the place out
+-- one that leaves the destination out
 abbrev pub write_astray : Open
 write_astray = asking 1 a_write phase.Data (target_on first_copy stage.Done ∷ target_on second_copy stage.Flying ∷ [])
 
@@ -81,7 +81,7 @@ along = record (open_move mode.Off) {
 abbrev pub destination_flight : Flight
 destination_flight = record { ticket = 1; disk = 2; first = 4096; count = 1; write = true; buf = record { number = 0; sectors = replicate 256 (replicate 512 0) } }
 
--- While a move runs a write goes to its place too, where it has passed the track group: so the session is sound, and without that it isn't.
+-- While a move runs a write goes to its destination too, where it has passed the track group: so the session is sound, and without that it isn't.
 pub record WritesGoAlong : Type 0 where
   pub aims : destination_aims (core_of along) a_write ≡ free_destination ∷ []
   pub sound : IsSound (state (record faultless { flights = destination_flight ∷ [] }) (core_of along))

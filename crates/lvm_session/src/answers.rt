@@ -108,7 +108,7 @@ pub enum CopyState {
     /// No copy is open.
     Closed,
     /// It is being brought up, and the track groups of its logical partition below this one, from 0, are copied; or
-    /// it has ended, and a transfer of it is out, or a request that hasn't landed has the place of a move as a target.
+    /// it has ended, and a transfer of it is out, or a request that hasn't landed has the destination of a move as a target.
     Running { cursor: u32 },
     /// It is fresh; a move is all copied, and to be committed.
     Done,

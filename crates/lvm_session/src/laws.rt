@@ -70,8 +70,8 @@ pub fn moves_are_sound()
     ensures { MovesAreSound }
 {}
 
-/// A session with a write that is done on both copies and out to the place to which one moves is sound. One whose
-/// write leaves that place out, though the move has passed its track group, isn't.
+/// A session with a write that is done on both copies and out to the destination of a move is sound. One whose
+/// write leaves that destination out, though the move has passed its track group, isn't.
 pub fn writes_go_along()
     ensures { WritesGoAlong }
 {}

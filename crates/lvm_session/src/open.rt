@@ -27,7 +27,7 @@ pub enum Power {
     Off,
     /// It is over: the power was cut.
     Dark,
-    /// Nothing was heard of a transfer of a command, which is still out. The session can only be looked at and
+    /// Nothing was heard of a transfer of the commit of a move, which is still out. The session can only be looked at and
     /// closed.
     Stuck,
 }

@@ -43,9 +43,9 @@ use Rattle.lvm_core.specs.Held.{IsHeld}
 use Rattle.lvm_core.specs.Committing.{is_in, with_one_out}
 use Rattle.lvm_core.specs.Steps.{CoreEnds}
 use Rattle.lvm_core.proofs.StepsLemmas.Ends.{core_ends, status_ends, status_numbered}
-use Rattle.lvm_change.specs.Turn.{HoldsBy, ComesBack, HasTurned, IsBefore, IsOfTurn, TurnGives}
-use Rattle.lvm_change.specs.declared.turn.Turn.{Turn}
-use Rattle.lvm_change.specs.declared.turn.Turned.TheVariants as turned
+use Rattle.lvm_change.specs.Transition.{HoldsBy, ComesBack, HasChanged, IsBefore, IsOfTransition, TransitionGives}
+use Rattle.lvm_change.specs.declared.turn.Transition.{Transition}
+use Rattle.lvm_change.specs.declared.turn.TransitionEnd.TheVariants as turned
 use Rattle.lvm_change.proofs.PartingLemmas.{parts_loses, parts_only, parts_left, parts_round, parts_forgotten}
 use Rattle.lvm_turnover.specs.declared.change.Change.{Change}
 use Rattle.lvm_turnover.specs.Changing.{IsNext}
@@ -58,8 +58,8 @@ use Rattle.lvm_turnover.proofs.PhaseLemmas.{before_held, turn_kept, turn_finds, 
 use Rattle.lvm_turnover.proofs.ShownLemmas.{not_risen, still_shown}
 use Rattle.lvm_turnover.proofs.StandingLemmas.{Fits, fits_by}
 
-module _ (c : Change) (old : State) (may : MayTurnSession c old) (turn : Turn) (by : IsTurnBy c old.core.descriptor turn) (slots : Homes) (p q r : ℕ) (m : Device) (written : ℕ) (buf : Buffer)
-    (gives : TurnGives turn (is_there old.core) old.core.status.stamp old.core.homes slots 0 p q old.device m (turned.Done written buf))
+module _ (c : Change) (old : State) (may : MayTurnSession c old) (turn : Transition) (by : IsTurnBy c old.core.descriptor turn) (slots : Homes) (p q r : ℕ) (m : Device) (written : ℕ) (buf : Buffer)
+    (gives : TransitionGives turn (is_there old.core) old.core.status.stamp old.core.homes slots 0 p q old.device m (turned.Done written buf))
     (new : State) (answer : Result (Unit {0}) CommitFault) (over : TakesOver c written slots q r m old new answer) (all : old.core.pool ≡ replicate (length old.core.pool) false) where
   abbrev next : Descriptor
   next = c.next
@@ -83,7 +83,7 @@ module _ (c : Change) (old : State) (may : MayTurnSession c old) (turn : Turn) (
   back : ComesBack (is_there old.core) (has written) 0 old.device m buf
   back = gives.ends.0
 
-  has_turned : HasTurned turn (IsBefore turn (is_there old.core) old.core.status.stamp old.core.homes old.device) (has written) (after_turn old.core.status.stamp) old.core.homes slots m
+  has_turned : HasChanged turn (IsBefore turn (is_there old.core) old.core.status.stamp old.core.homes old.device) (has written) (after_turn old.core.status.stamp) old.core.homes slots m
   has_turned = gives.ends.1
 
   valid : IsValid next
@@ -210,7 +210,7 @@ module _ (c : Change) (old : State) (may : MayTurnSession c old) (turn : Turn) (
       append-path before (map-path (λ d. IsHeld old.device old.core → StaysKept old.device d) (λ d is held facts was. is (first_wants (first_held held)) (first_held held) facts (last-path before held facts was)) s.kept)
 
   finds : IsHeld old.device old.core → FindsNoMoreOn next old.device new.device
-  finds held = then_no_more old.device m new.device (λ was is. ChangesBy (IsOfTurn turn (is_there old.core) (next_stamp old.core.status.stamp) (after_turn old.core.status.stamp)) (image_of old.device.sizes was) (image_of m.sizes is)) gives.keeps.media
+  finds held = then_no_more old.device m new.device (λ was is. ChangesBy (IsOfTransition turn (is_there old.core) (next_stamp old.core.status.stamp) (after_turn old.core.status.stamp)) (image_of old.device.sizes was) (image_of m.sizes is)) gives.keeps.media
       (s.finds next (sym group) (first_held held)) next (turn_finds c old may turn by slots p q m (turned.Done written buf) gives held)
 
   pub over_writes : Writes next (disks_leaving c.leaving) p r old new

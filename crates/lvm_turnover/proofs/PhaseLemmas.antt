@@ -31,9 +31,9 @@ use Rattle.lvm_commit.proofs.SettlingLemmas.Chaining.{keeps_wider, path_counts, 
 use Rattle.lvm_commit.proofs.SettlingLemmas.Round.{no_more_there}
 use Rattle.lvm_session.specs.State.{Core, State, state, is_there}
 use Rattle.lvm_core.specs.Held.{IsHeld}
-use Rattle.lvm_change.specs.declared.turn.Turn.{Turn}
-use Rattle.lvm_change.specs.declared.turn.Turned.{Turned}
-use Rattle.lvm_change.specs.Turn.{HoldsBy, IsBefore, IsOfTurn, ComesBack, TurnGives}
+use Rattle.lvm_change.specs.declared.turn.Transition.{Transition}
+use Rattle.lvm_change.specs.declared.turn.TransitionEnd.{TransitionEnd}
+use Rattle.lvm_change.specs.Transition.{HoldsBy, IsBefore, IsOfTransition, ComesBack, TransitionGives}
 use Rattle.lvm_turnover.specs.declared.change.Change.{Change}
 use Rattle.lvm_turnover.specs.Changing.{IsNext}
 use Rattle.lvm_turnover.specs.Turning.{IsTurnBy, MayTurnSession, after_turn, disks_leaving, stamped_twice, unreached}
@@ -41,8 +41,8 @@ use Rattle.lvm_turnover.proofs.BeginningLemmas.{next, session_there, copy_apart}
 use Rattle.lvm_turnover.proofs.LeavingLemmas.{Writes}
 use Rattle.lvm_turnover.proofs.MarksLemmas.{marks_kept}
 
-module _ (c : Change) (old : State) (may : MayTurnSession c old) (turn : Turn) (by : IsTurnBy c old.core.descriptor turn) (slots : Homes) (p q : ℕ) (m : Device) (t : Turned)
-    (gives : TurnGives turn (is_there old.core) old.core.status.stamp old.core.homes slots 0 p q old.device m t) where
+module _ (c : Change) (old : State) (may : MayTurnSession c old) (turn : Transition) (by : IsTurnBy c old.core.descriptor turn) (slots : Homes) (p q : ℕ) (m : Device) (t : TransitionEnd)
+    (gives : TransitionGives turn (is_there old.core) old.core.status.stamp old.core.homes slots 0 p q old.device m t) where
   abbrev goal : Descriptor
   goal = next c old may
 
@@ -68,7 +68,7 @@ module _ (c : Change) (old : State) (may : MayTurnSession c old) (turn : Turn) (
   -- ---- what is written
 
   module _ (last : Stored) (latest : stamp.seq + 2 ≤ last.stamp.seq) where
-    of_commit : (d s : ℕ) (value : Sector) → IsOfTurn turn (is_there old.core) (next_stamp stamp) (next_stamp (next_stamp stamp)) d s value → IsOfCommit (descriptor_bytes goal) old.core.status last d s value
+    of_commit : (d s : ℕ) (value : Sector) → IsOfTransition turn (is_there old.core) (next_stamp stamp) (next_stamp (next_stamp stamp)) d s value → IsOfCommit (descriptor_bytes goal) old.core.status last d s value
     of_commit d s value it = ⊎_elim
         (λ states. (
           it.write,
@@ -99,7 +99,7 @@ module _ (c : Change) (old : State) (may : MayTurnSession c old) (turn : Turn) (
         it.which
 
     pub turn_writes : KeepsShelf (is_there old.core) (IsOfCommit (descriptor_bytes goal) old.core.status last) old.device m
-    turn_writes = keeps_wider (is_there old.core) (is_there old.core) (IsOfTurn turn (is_there old.core) (next_stamp stamp) (next_stamp (next_stamp stamp))) (IsOfCommit (descriptor_bytes goal) old.core.status last) old.device m (λ d off. off) of_commit gives.keeps
+    turn_writes = keeps_wider (is_there old.core) (is_there old.core) (IsOfTransition turn (is_there old.core) (next_stamp stamp) (next_stamp (next_stamp stamp))) (IsOfCommit (descriptor_bytes goal) old.core.status last) old.device m (λ d off. off) of_commit gives.keeps
 
   -- ---- where the descriptor stays
 

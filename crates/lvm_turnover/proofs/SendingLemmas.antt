@@ -28,11 +28,11 @@ use Rattle.lvm_core.specs.Committing.{is_in, with_one_out}
 use Rattle.lvm_core.proofs.RecordLemmas.{descriptor_fits}
 use Rattle.lvm_core.proofs.CommittingLemmas.Buffers.{back_again}
 use Rattle.lvm_change_laws.specs.Rule.{MayChange}
-use Rattle.lvm_change.specs.declared.turn.Turn.{Turn}
-use Rattle.lvm_change.specs.declared.turn.Turned.{Turned}
-use Rattle.lvm_change.specs.declared.turn.Turned.TheVariants as turned
+use Rattle.lvm_change.specs.declared.turn.Transition.{Transition}
+use Rattle.lvm_change.specs.declared.turn.TransitionEnd.{TransitionEnd}
+use Rattle.lvm_change.specs.declared.turn.TransitionEnd.TheVariants as turned
 use Rattle.lvm_change.specs.Parting.{PartsWith}
-use Rattle.lvm_change.specs.Turn.{MayTurn, TurnGives}
+use Rattle.lvm_change.specs.Transition.{MayMakeTransition, TransitionGives}
 use Rattle.lvm_turnover.specs.declared.change.Change.{Change}
 use Rattle.lvm_turnover.specs.Turning.{BeginsWith, IsTurnBy, MaySend, MayTurnSession, IsSent, IsSettledBy, TakesOver, GivesUp, GoesOnWith, TurnsSession, after_turn, core_after, disks_leaving, stamped_twice, unreached}
 use Rattle.lvm_turnover.proofs.BeginningLemmas.{first_may}
@@ -49,8 +49,8 @@ out_back commit_end.Stuck pool out number = tt
 pub may_send : (c : Change) (there : Disks) (s : State) → MayTurnSession c s → there ≡ is_there s.core → MaySend c there s
 may_send c there s may is = record { made = may.ready; there_is = is; leaves = is_in (disks_leaving c.leaving); change = may.change; commit = may.commit }
 
-module _ (c : Change) (there : Disks) (s : State) (may : MaySend c there s) (turn : Turn) (by : IsTurnBy c s.core.descriptor turn) where
-  pub may_turn : s.core.status.stamp.epoch < 2 ^ 64 → MayTurn turn there s.core.status.stamp s.device
+module _ (c : Change) (there : Disks) (s : State) (may : MaySend c there s) (turn : Transition) (by : IsTurnBy c s.core.descriptor turn) where
+  pub may_turn : s.core.status.stamp.epoch < 2 ^ 64 → MayMakeTransition turn there s.core.status.stamp s.device
   may_turn bound = record {
     ready = may.commit.ready;
     records = record {
@@ -78,7 +78,7 @@ sent_core self taken u homes last is next stamp =
 
 -- ---- behind them
 
-module _ (c : Change) (before middle after : ℕ) (old new : State) (m : Device) (sent : Core) (there : Disks) (t : Turned) (answer : Result (Unit {0}) CommitFault) (there_is : there ≡ is_there old.core)
+module _ (c : Change) (before middle after : ℕ) (old new : State) (m : Device) (sent : Core) (there : Disks) (t : TransitionEnd) (answer : Result (Unit {0}) CommitFault) (there_is : there ≡ is_there old.core)
     (is_sent : IsSent c there before middle old (state m sent) t) where
   pub turns : GoesOnWith c sent.homes middle after m old new t answer → TurnsSession c before after old new answer
   turns goes = record {
@@ -88,7 +88,7 @@ module _ (c : Change) (before middle after : ℕ) (old new : State) (m : Device)
     middle = middle;
     device = m;
     turned = t;
-    gives = subst (λ (set : Disks). TurnGives is_sent.turn set old.core.status.stamp old.core.homes sent.homes 0 before middle old.device m t) there_is is_sent.gives;
+    gives = subst (λ (set : Disks). TransitionGives is_sent.turn set old.core.status.stamp old.core.homes sent.homes 0 before middle old.device m t) there_is is_sent.gives;
     goes = goes;
   }
 
@@ -104,8 +104,8 @@ module _ (c : Change) (before middle after : ℕ) (old new : State) (m : Device)
 
 module _ (c : Change) (before middle : ℕ) (old : State) (m : Device) (sent : Core) (there : Disks) (written : ℕ) (buf : Buffer) (there_is : there ≡ is_there old.core)
     (is_sent : IsSent c there before middle old (state m sent) (turned.Done written buf)) (may : MayTurnSession c old) where
-  gives_done : TurnGives is_sent.turn (is_there old.core) old.core.status.stamp old.core.homes sent.homes 0 before middle old.device m (turned.Done written buf)
-  gives_done = subst (λ (set : Disks). TurnGives is_sent.turn set old.core.status.stamp old.core.homes sent.homes 0 before middle old.device m (turned.Done written buf)) there_is is_sent.gives
+  gives_done : TransitionGives is_sent.turn (is_there old.core) old.core.status.stamp old.core.homes sent.homes 0 before middle old.device m (turned.Done written buf)
+  gives_done = subst (λ (set : Disks). TransitionGives is_sent.turn set old.core.status.stamp old.core.homes sent.homes 0 before middle old.device m (turned.Done written buf)) there_is is_sent.gives
 
   pub done_number : buf.number ≡ 0
   done_number = gives_done.ends.0.number_is
@@ -122,7 +122,7 @@ module _ (c : Change) (before middle : ℕ) (old : State) (m : Device) (sent : C
 module _ (c : Change) (before middle : ℕ) (old : State) (m : Device) (sent : Core) (there : Disks) (have total written : ℕ) (buf : Buffer) (there_is : there ≡ is_there old.core)
     (is_sent : IsSent c there before middle old (state m sent) (turned.WentOff have total written buf)) where
   pub off_number : buf.number ≡ 0
-  off_number = (subst (λ (set : Disks). TurnGives is_sent.turn set old.core.status.stamp old.core.homes sent.homes 0 before middle old.device m (turned.WentOff have total written buf)) there_is is_sent.gives).ends.0.number_is
+  off_number = (subst (λ (set : Disks). TransitionGives is_sent.turn set old.core.status.stamp old.core.homes sent.homes 0 before middle old.device m (turned.WentOff have total written buf)) there_is is_sent.gives).ends.0.number_is
 
   pub gives_up : (all : old.core.pool ≡ replicate (length old.core.pool) false) (lost : ℕ) → has lost ≡ written_well there (has written) → (new : Core) → new ≡ record sent { pool = slice_set sent.pool buf.number false; status = new.status; power = power.Off }
       → PartsWith sent.descriptor (has lost) sent.status new.status → GivesUp have total written sent.homes old (state m new) (Err (fault.WentOff have total))

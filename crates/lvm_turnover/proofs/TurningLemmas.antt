@@ -39,10 +39,10 @@ use Rattle.lvm_core.proofs.SettlingLemmas.{holds_session, may_commit_now}
 use Rattle.lvm_core.proofs.CommittingLemmas.Settled.{there_is}
 use Rattle.lvm_change_laws.specs.Rule.{MayChange, MayChangeRule}
 use Rattle.lvm_change_laws.proofs.RuleLemmas.{rule_is_change}
-use Rattle.lvm_change.specs.Turn.{ComesBack, HasFewVotes, TurnGives}
-use Rattle.lvm_change.specs.declared.turn.Turn.{Turn}
-use Rattle.lvm_change.specs.declared.turn.Turned.{Turned}
-use Rattle.lvm_change.specs.declared.turn.Turned.TheVariants as turned
+use Rattle.lvm_change.specs.Transition.{ComesBack, HasFewVotes, TransitionGives}
+use Rattle.lvm_change.specs.declared.turn.Transition.{Transition}
+use Rattle.lvm_change.specs.declared.turn.TransitionEnd.{TransitionEnd}
+use Rattle.lvm_change.specs.declared.turn.TransitionEnd.TheVariants as turned
 use Rattle.lvm_change.proofs.PartingLemmas.{parts_only, parts_left, parts_forgotten, parts_stamp, parts_there}
 use Rattle.lvm_turnover.specs.declared.change.Change.{Change}
 use Rattle.lvm_turnover.specs.declared.change.Leaving.{Leaving}
@@ -63,7 +63,7 @@ pub record Comes (c : Change) (before after : ℕ) (old new : State) (answer : R
   pub shown : ShowsGone c.next old new answer
   pub leaves : LeavesWithin 3 (IsNext c.next) [] (disks_leaving c.leaving) before after old new
 
-module _ (c : Change) (old : State) (may : MayTurnSession c old) (settled_is : IsSettled old.core) (sound : IsSoundAtRest old) (turn : Turn) (by : IsTurnBy c old.core.descriptor turn) where
+module _ (c : Change) (old : State) (may : MayTurnSession c old) (settled_is : IsSettled old.core) (sound : IsSoundAtRest old) (turn : Transition) (by : IsTurnBy c old.core.descriptor turn) where
   abbrev next : Descriptor
   next = c.next
 
@@ -95,7 +95,7 @@ module _ (c : Change) (old : State) (may : MayTurnSession c old) (settled_is : I
   -- ---- the power was cut, or nothing was heard, before both records stood
 
   module _ (slots : Homes) (p q : ℕ) (new : State) where
-    came_dark : TurnGives turn (is_there old.core) old.core.status.stamp old.core.homes slots 0 p q old.device new.device turned.Dark → new.core ≡ all_dark (record old.core { pool = with_one_out old.core.pool; status = u; homes = slots })
+    came_dark : TransitionGives turn (is_there old.core) old.core.status.stamp old.core.homes slots 0 p q old.device new.device turned.Dark → new.core ≡ all_dark (record old.core { pool = with_one_out old.core.pool; status = u; homes = slots })
         → Comes c p q old new (Err fault.Dark)
     came_dark gives is =
         let cut : IsDarkened 0 old.device new.device = gives.ends in
@@ -109,7 +109,7 @@ module _ (c : Change) (old : State) (may : MayTurnSession c old) (settled_is : I
           leaves = change_leaves next (disks_leaving c.leaving) p q old new (turn_stopped c old may turn by slots p q new.device turned.Dark gives new.core (ap (λ (k : Core). k.status) is)) (inr (ap (λ (k : Core). k.history) flat));
         }
 
-    came_stuck : TurnGives turn (is_there old.core) old.core.status.stamp old.core.homes slots 0 p q old.device new.device turned.Stuck → new.core ≡ record old.core { pool = with_one_out old.core.pool; status = u; homes = slots }
+    came_stuck : TransitionGives turn (is_there old.core) old.core.status.stamp old.core.homes slots 0 p q old.device new.device turned.Stuck → new.core ≡ record old.core { pool = with_one_out old.core.pool; status = u; homes = slots }
         → Comes c p q old new (Err fault.Stuck)
     came_stuck gives is =
         let out : IsGivenUp 0 p old.device new.device = gives.ends in
@@ -124,7 +124,7 @@ module _ (c : Change) (old : State) (may : MayTurnSession c old) (settled_is : I
 
     -- ---- the votes were too few
 
-    module _ (have total written : ℕ) (buf : Buffer) (gives : TurnGives turn (is_there old.core) old.core.status.stamp old.core.homes slots 0 p q old.device new.device (turned.WentOff have total written buf))
+    module _ (have total written : ℕ) (buf : Buffer) (gives : TransitionGives turn (is_there old.core) old.core.status.stamp old.core.homes slots 0 p q old.device new.device (turned.WentOff have total written buf))
         (answer : Result (Unit {0}) CommitFault) (up : GivesUp have total written slots old new answer) where
       back : ComesBack (is_there old.core) (has written) 0 old.device new.device buf
       back = gives.ends.0
@@ -207,7 +207,7 @@ module _ (c : Change) (old : State) (may : MayTurnSession c old) (settled_is : I
   abbrev origin : Origin
   origin = origin_after c.leaving old.core.origin
 
-  module _ (slots : Homes) (p q r : ℕ) (m : Device) (written : ℕ) (buf : Buffer) (gives : TurnGives turn (is_there old.core) old.core.status.stamp old.core.homes slots 0 p q old.device m (turned.Done written buf))
+  module _ (slots : Homes) (p q r : ℕ) (m : Device) (written : ℕ) (buf : Buffer) (gives : TransitionGives turn (is_there old.core) old.core.status.stamp old.core.homes slots 0 p q old.device m (turned.Done written buf))
       (new : State) (answer : Result (Unit {0}) CommitFault) (over : TakesOver c written slots q r m old new answer) where
     back_over : ComesBack (is_there old.core) (has written) 0 old.device m buf
     back_over = gives.ends.0
@@ -295,12 +295,12 @@ pub session_comes :
     → Comes c before after old new answer
 session_comes c before after old new answer w may settled_is sound = by_how w.turned w.gives w.goes
   where
-    at_end : (t : Turned) → new.device ≡ w.device → after ≡ w.middle → TurnGives w.turn (is_there old.core) old.core.status.stamp old.core.homes w.slots 0 before w.middle old.device w.device t
-        → TurnGives w.turn (is_there old.core) old.core.status.stamp old.core.homes w.slots 0 before after old.device new.device t
-    at_end t same still gives = subst (λ (d : Device). TurnGives w.turn (is_there old.core) old.core.status.stamp old.core.homes w.slots 0 before after old.device d t) (sym same)
-        (subst (λ (n : ℕ). TurnGives w.turn (is_there old.core) old.core.status.stamp old.core.homes w.slots 0 before n old.device w.device t) (sym still) gives)
+    at_end : (t : TransitionEnd) → new.device ≡ w.device → after ≡ w.middle → TransitionGives w.turn (is_there old.core) old.core.status.stamp old.core.homes w.slots 0 before w.middle old.device w.device t
+        → TransitionGives w.turn (is_there old.core) old.core.status.stamp old.core.homes w.slots 0 before after old.device new.device t
+    at_end t same still gives = subst (λ (d : Device). TransitionGives w.turn (is_there old.core) old.core.status.stamp old.core.homes w.slots 0 before after old.device d t) (sym same)
+        (subst (λ (n : ℕ). TransitionGives w.turn (is_there old.core) old.core.status.stamp old.core.homes w.slots 0 before n old.device w.device t) (sym still) gives)
 
-    by_how : (t : Turned) → TurnGives w.turn (is_there old.core) old.core.status.stamp old.core.homes w.slots 0 before w.middle old.device w.device t → GoesOnWith c w.slots w.middle after w.device old new t answer
+    by_how : (t : TransitionEnd) → TransitionGives w.turn (is_there old.core) old.core.status.stamp old.core.homes w.slots 0 before w.middle old.device w.device t → GoesOnWith c w.slots w.middle after w.device old new t answer
         → Comes c before after old new answer
     by_how (turned.Done written buf) gives goes = came_over c old may settled_is sound w.turn w.by w.slots before w.middle after w.device written buf gives new answer goes
     by_how (turned.WentOff have total written buf) gives (same, still, up) =

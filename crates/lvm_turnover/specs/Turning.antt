@@ -29,11 +29,11 @@ use Rattle.lvm_core.specs.Committing.{is_in, with_one_out}
 use Rattle.lvm_core.specs.Held.{IsHeld}
 use Rattle.lvm_core.specs.Steps.{EndsAs}
 use Rattle.lvm_change_laws.specs.Rule.{MayChange, IsShownOn}
-use Rattle.lvm_change.specs.declared.turn.Turn.{Turn}
-use Rattle.lvm_change.specs.declared.turn.Turned.{Turned}
-use Rattle.lvm_change.specs.declared.turn.Turned.TheVariants as turned
+use Rattle.lvm_change.specs.declared.turn.Transition.{Transition}
+use Rattle.lvm_change.specs.declared.turn.TransitionEnd.{TransitionEnd}
+use Rattle.lvm_change.specs.declared.turn.TransitionEnd.TheVariants as turned
 use Rattle.lvm_change.specs.Parting.{PartsWith}
-use Rattle.lvm_change.specs.Turn.{TurnGives}
+use Rattle.lvm_change.specs.Transition.{TransitionGives}
 use Rattle.lvm_turnover.specs.declared.change.Change.{Change}
 use Rattle.lvm_turnover.specs.declared.change.Leaving.{Leaving}
 
@@ -59,7 +59,7 @@ pub record IsReady (c : Change) : Type 0 where
   pub stay : c.leaving ≡ None
 
 -- The turn has its descriptor and its status, with their bytes.
-pub record IsTurnBy (c : Change) (was : Descriptor) (turn : Turn) : Type 0 where
+pub record IsTurnBy (c : Change) (was : Descriptor) (turn : Transition) : Type 0 where
   pub was_is : turn.was.now ≡ was
   pub next : turn.next.now ≡ c.next
   pub told : turn.told.now ≡ c.tables.told
@@ -116,10 +116,10 @@ abbrev pub stamped_twice : Core → Stored
 stamped_twice core = record core.status { stamp = after_turn core.status.stamp }
 
 -- The records were sent to these members, under the next two stamps, with the first buffer.
-pub record IsSent (c : Change) (there : Disks) (before after : ℕ) (old new : State) (result : Turned) : Type 0 where
-  pub turn : Turn
+pub record IsSent (c : Change) (there : Disks) (before after : ℕ) (old new : State) (result : TransitionEnd) : Type 0 where
+  pub turn : Transition
   pub by : IsTurnBy c old.core.descriptor turn
-  pub gives : TurnGives turn there old.core.status.stamp old.core.homes new.core.homes 0 before after old.device new.device result
+  pub gives : TransitionGives turn there old.core.status.stamp old.core.homes new.core.homes 0 before after old.device new.device result
   pub is : new.core ≡ record old.core { pool = with_one_out old.core.pool; status = stamped_twice old.core; homes = new.core.homes }
 
 -- ---- what is wanted behind them
@@ -158,7 +158,7 @@ pub record GivesUp (have total written : ℕ) (slots : Homes) (old new : State) 
   pub is : new.core ≡ record old.core { status = new.core.status; homes = slots; power = power.Off }
 
 -- What the session does with what came of the records, by how they ended.
-abbrev pub GoesOnWith : Change → Homes → ℕ → ℕ → Device → State → State → Turned → Result (Unit {0}) CommitFault → Type 0
+abbrev pub GoesOnWith : Change → Homes → ℕ → ℕ → Device → State → State → TransitionEnd → Result (Unit {0}) CommitFault → Type 0
 GoesOnWith c slots before after device old new (turned.Done written buf) answer = TakesOver c written slots before after device old new answer
 GoesOnWith c slots before after device old new (turned.WentOff have total written buf) answer = (new.device ≡ device) × (after ≡ before) × GivesUp have total written slots old new answer
 GoesOnWith c slots before after device old new turned.Dark answer =
@@ -170,13 +170,13 @@ GoesOnWith c slots before after device old new turned.Stuck answer =
 
 -- The two records were written, or as far as that went, and the session went on with what came of it.
 pub record TurnsSession (c : Change) (before after : ℕ) (old new : State) (answer : Result (Unit {0}) CommitFault) : Type 0 where
-  pub turn : Turn
+  pub turn : Transition
   pub by : IsTurnBy c old.core.descriptor turn
   pub slots : Homes
   pub middle : ℕ
   pub device : Device
-  pub turned : Turned
-  pub gives : TurnGives turn (is_there old.core) old.core.status.stamp old.core.homes slots 0 before middle old.device device turned
+  pub turned : TransitionEnd
+  pub gives : TransitionGives turn (is_there old.core) old.core.status.stamp old.core.homes slots 0 before middle old.device device turned
   pub goes : GoesOnWith c slots middle after device old new turned answer
 
 -- ---- disks that left

@@ -20,7 +20,7 @@ ghost use Rattle.lvm_mwc.specs.Cache.{flight_on};
 ghost use Rattle.lvm_turnover.specs.Turning.{IsPrepared, IsTurnBy, MaySend, MayTurnSession, IsSent, IsSettledBy, BeginsWith, TurnsSession, core_after};
 
 use crate::change::{Change, Leaving};
-use lvm_change::{Turn, Turned, next_stamp, part_with, turn_over, without};
+use lvm_change::{Transition, TransitionEnd, next_stamp, part_with, make_transition, without};
 use lvm_commit::{CommitEnd, commit_status};
 use lvm_core::CommitFault;
 use lvm_core::below::{Patience, Power};
@@ -48,11 +48,11 @@ pub fn turn_session<S: Shelf>(
     let there = members_there(&session.descriptor, session.updater.wanted());
     let stay = members_there(&change.next, session.updater.wanted());
     match send(session, shelf, &change, there, patience) {
-        Turned::Done { written, buf } => {
+        TransitionEnd::Done { written, buf } => {
             take_over(session, change, without(stay, written));
             settle(session, shelf, buf, patience)
         }
-        Turned::WentOff {
+        TransitionEnd::WentOff {
             have,
             total,
             written,
@@ -61,11 +61,11 @@ pub fn turn_session<S: Shelf>(
             give_up(session, without(there, written), buf);
             Err(CommitFault::WentOff { have, total })
         }
-        Turned::Dark => {
+        TransitionEnd::Dark => {
             darken(session);
             Err(CommitFault::Dark)
         }
-        Turned::Stuck => Err(CommitFault::Stuck),
+        TransitionEnd::Stuck => Err(CommitFault::Stuck),
     }
 }
 
@@ -89,7 +89,7 @@ fn send<S: Shelf>(
     change: &Change,
     there: DiskSet,
     patience: &mut Patience,
-) -> Turned
+) -> TransitionEnd
     requires some { 1 ≤ length session.old.pool }
     requires buffers { session.old.pool ≡ replicate (length session.old.pool) false }
     requires bytes { 131072 ≤ length session.old.bytes.items }
@@ -104,16 +104,16 @@ fn send<S: Shelf>(
     session.updater.set_stamp(last);
     let count = spell_status(session, change.tables.told());
     let turn = turn_by(change, &session.descriptor, &session.bytes[..count]);
-    turn_over(shelf, turn, stamp, there, &mut session.homes, buf, patience)
+    make_transition(shelf, turn, stamp, there, &mut session.homes, buf, patience)
 }
 
 // The turn to the next descriptor from the one that is committed, with these bytes of its status.
-fn turn_by<'a>(change: &'a Change, was: &'a Descriptor, status: &'a [u8]) -> Turn<'a>
+fn turn_by<'a>(change: &'a Change, was: &'a Descriptor, status: &'a [u8]) -> Transition<'a>
     requires prepared { IsPrepared change.now }
     requires status { status.now ≡ status_bytes change.now.tables.told }
     ensures { IsTurnBy change.now was.now result }
 {
-    Turn {
+    Transition {
         was,
         next: &change.next,
         told: change.tables.told().as_status(),

@@ -32,7 +32,7 @@ use Rattle.lvm_session.specs.State.{Core, is_there}
 use Rattle.lvm_session.specs.Judging.{copies_for, is_beside_copy, is_changed, is_missing, is_running, is_settled, is_usable, is_waiting, lp_of, destinations_for, destinations_if}
 use Rattle.lvm_session.specs.Bringing.{groups_of, is_whole}
 use Rattle.lvm_session.specs.Enabled.{is_lost, same_status}
-use Rattle.lvm_session.specs.Left.{begun_left, copy_left, if_so, is_brought_up, is_held, lacks_dirty, lacks_note, left_by, phase_left, place_turns, read_left, request_left, status_left, step_left, tried_of, turns_of, unbegun_left, unstarted_writes, update_work, waiting_targets, work_left, write_left}
+use Rattle.lvm_session.specs.Left.{begun_left, copy_left, if_so, is_brought_up, is_held, lacks_dirty, lacks_note, left_by, phase_left, destination_turns, read_left, request_left, status_left, step_left, tried_of, turns_of, unbegun_left, unstarted_writes, update_work, waiting_targets, work_left, write_left}
 use Rattle.lvm_session.specs.Requests.{IsLaid, IsOpenOne}
 use Rattle.lvm_session.specs.Sound.{IsGoing, count_if}
 use Rattle.lvm_session.proofs.MovesLemmas.{places_by}
@@ -61,18 +61,18 @@ sum_few f (a ∷ b ∷ []) low few = let s = sum_by-cons f a (b ∷ []) in let t
 sum_few f (a ∷ b ∷ c ∷ []) low few = let s = sum_by-cons f a (b ∷ c ∷ []) in let t = sum_by-cons f b (c ∷ []) in let u = sum_by-cons f c [] in let x = low a in let y = low b in let z = low c in omega (arith, s, t, u, x, y, z)
 sum_few f (a ∷ b ∷ c ∷ d ∷ rest) low few = absurd (omega (arith, few))
 
-few_place_turns : (core : Core) (p : Pp) → place_turns core p ≤ 46
+few_place_turns : (core : Core) (p : Pp) → destination_turns core p ≤ 46
 few_place_turns core p = of_two (not (is_missing core p.disk) && is_brought_up core p) 46 0 46 (omega arith) (omega arith)
 
 -- a copy moves to one place
-few_places : (core : Core) (r : Request) → sum_by (place_turns core) (destinations_for core r.ask) ≤ 46
+few_places : (core : Core) (r : Request) → sum_by (destination_turns core) (destinations_for core r.ask) ≤ 46
 few_places core r = by core.copy
   where
-    by_test : (c : OpenCopy) (b : Bool) → sum_by (place_turns core) (destinations_if b c) ≤ 46
-    by_test c true = let one = sum_by-cons (place_turns core) c.pp [] in let few = few_place_turns core c.pp in omega (arith, one, few)
+    by_test : (c : OpenCopy) (b : Bool) → sum_by (destination_turns core) (destinations_if b c) ≤ 46
+    by_test c true = let one = sum_by-cons (destination_turns core) c.pp [] in let few = few_place_turns core c.pp in omega (arith, one, few)
     by_test c false = omega arith
 
-    by : (m : Option OpenCopy) → sum_by (place_turns core) (places_by core r.ask m) ≤ 46
+    by : (m : Option OpenCopy) → sum_by (destination_turns core) (places_by core r.ask m) ≤ 46
     by None = omega arith
     by (Some c) = by_test c (c.moves && is_beside_copy core r.ask c)
 

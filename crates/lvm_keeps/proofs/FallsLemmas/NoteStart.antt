@@ -27,7 +27,7 @@ use Rattle.lvm_session.specs.State.{Core, State, is_there}
 use Rattle.lvm_session.specs.Judging.{copies_for, group_of, is_changed, is_missing, is_waiting, destinations_for}
 use Rattle.lvm_session.specs.Enabled.{is_unnamed, note_due, wants_record}
 use Rattle.lvm_session.specs.Events.{flown}
-use Rattle.lvm_session.specs.Left.{begun_left, copy_left, if_so, is_held, lacks_dirty, lacks_note, left_of, phase_left, read_left, request_left, status_left, place_turns, turns_of, unbegun_left, update_work, work_left, write_left}
+use Rattle.lvm_session.specs.Left.{begun_left, copy_left, if_so, is_held, lacks_dirty, lacks_note, left_of, phase_left, read_left, request_left, status_left, destination_turns, turns_of, unbegun_left, update_work, work_left, write_left}
 use Rattle.lvm_session.specs.Requests.{IsPhase}
 use Rattle.lvm_session.specs.Sound.{count_if}
 use Rattle.lvm_keeps.specs.Falls.{NoteStartFalls}
@@ -144,7 +144,7 @@ module _ (core : Core) (disk : ℕ) (row : Flown) (pool : List Bool) (none : fli
 
   -- what is left of it beside its phase
   abbrev beside : Request → ℕ
-  beside r = update_work + sum_by (turns_of core) (copies_for core r.ask) + sum_by (place_turns core) (destinations_for core r.ask) + if_so (lacks_dirty core r.ask) update_work + if_so (not (is_held r.phase) && is_changed core r) 12
+  beside r = update_work + sum_by (turns_of core) (copies_for core r.ask) + sum_by (destination_turns core) (destinations_for core r.ask) + if_so (lacks_dirty core r.ask) update_work + if_so (not (is_held r.phase) && is_changed core r) 12
 
   unbegun_less : (r : Request) → IsHeld r → unbegun_left after r ≤ unbegun_left core r
   unbegun_less r held = more_by (beside r) (phase_left r.phase after r) (phase_left r.phase core r) (phase_less r.phase r held)

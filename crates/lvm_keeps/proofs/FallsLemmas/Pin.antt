@@ -15,7 +15,7 @@ use Rattle.lvm_session.specs.Judging.{copies_for, group_of, is_changed, is_waiti
 use Rattle.lvm_session.specs.Enabled.{is_lost, may_pin}
 use Rattle.lvm_path.specs.Asks.{is_write, lv_of}
 use Rattle.lvm_path.specs.Targets.{is_begun}
-use Rattle.lvm_session.specs.Left.{begun_left, copy_left, if_so, is_held, lacks_dirty, lacks_note, left_of, phase_left, read_left, request_left, status_left, place_turns, turns_of, unbegun_left, update_work, work_left, write_left}
+use Rattle.lvm_session.specs.Left.{begun_left, copy_left, if_so, is_held, lacks_dirty, lacks_note, left_of, phase_left, read_left, request_left, status_left, destination_turns, turns_of, unbegun_left, update_work, work_left, write_left}
 use Rattle.lvm_session.specs.Sound.{IsSound}
 use Rattle.lvm_keeps.specs.Falls.{PinFalls}
 use Rattle.lvm_keeps.proofs.LeftLemmas.Leaving.{left_same, lit, grows}
@@ -60,7 +60,7 @@ module _ (s : State) (sound : IsSound s) (on : s.core.power ≡ power.On) (place
 
   -- what is left of it beside its phase
   abbrev beside : ℕ
-  beside = update_work + sum_by (turns_of core) (copies_for core o.request.ask) + sum_by (place_turns core) (destinations_for core o.request.ask) + if_so (lacks_dirty core o.request.ask) update_work + if_so (is_changed core o.request) 12
+  beside = update_work + sum_by (turns_of core) (copies_for core o.request.ask) + sum_by (destination_turns core) (destinations_for core o.request.ask) + if_so (lacks_dirty core o.request.ask) update_work + if_so (is_changed core o.request) 12
 
   abbrev notes : ℕ
   notes = count_by (lacks_note after with_its_pin.request) o.request.targets.items
@@ -79,7 +79,7 @@ module _ (s : State) (sound : IsSound s) (on : s.core.power ≡ power.On) (place
       ap (λ b. if_so b (if is_write o.request.ask then write_left core o.request else read_left o.request.phase o.request)) waiting
       ∙ ap (λ b. if b then write_left core o.request else read_left o.request.phase o.request) write
       ∙ ap (λ b. if b then begun_left o.request else unbegun_left core o.request) unbegun
-      ∙ ap (λ p. update_work + sum_by (turns_of core) (copies_for core o.request.ask) + sum_by (place_turns core) (destinations_for core o.request.ask) + if_so (lacks_dirty core o.request.ask) update_work + if_so (not (is_held p) && is_changed core o.request) 12 + phase_left p core o.request) (entry s sound on place o there may)
+      ∙ ap (λ p. update_work + sum_by (turns_of core) (copies_for core o.request.ask) + sum_by (destination_turns core) (destinations_for core o.request.ask) + if_so (lacks_dirty core o.request.ask) update_work + if_so (not (is_held p) && is_changed core o.request) 12 + phase_left p core o.request) (entry s sound on place o there may)
 
   behind : request_left after with_its_pin ≡ beside + (9 + 2 * notes)
   behind =

@@ -16,7 +16,7 @@ use Rattle.lvm_session.specs.declared.open.Open.{Open}
 use Rattle.lvm_session.specs.declared.open.Power.TheVariants as power
 use Rattle.lvm_session.specs.State.{Core}
 use Rattle.lvm_session.specs.Judging.{copies_for, is_changed, is_waiting, destinations_for}
-use Rattle.lvm_session.specs.Left.{begun_left, if_so, is_held, lacks_dirty, phase_left, read_left, request_left, place_turns, turns_of, update_work, lacks_note, left_by, left_of, work_left}
+use Rattle.lvm_session.specs.Left.{begun_left, if_so, is_held, lacks_dirty, phase_left, read_left, request_left, destination_turns, turns_of, update_work, lacks_note, left_by, left_of, work_left}
 use Rattle.lvm_session.specs.Enabled.{is_lost}
 use Rattle.lvm_keeps.proofs.RequestsLemmas.{changed}
 
@@ -38,7 +38,7 @@ phase_still core now r lacks phase.Landed = refl
 
 -- what a write that hasn't started its data has left beside its phase
 abbrev pub left_beside : Core → Request → ℕ
-left_beside core r = update_work + sum_by (turns_of core) (copies_for core r.ask) + sum_by (place_turns core) (destinations_for core r.ask) + if_so (lacks_dirty core r.ask) update_work + if_so (not (is_held r.phase) && is_changed core r) 12
+left_beside core r = update_work + sum_by (turns_of core) (copies_for core r.ask) + sum_by (destination_turns core) (destinations_for core r.ask) + if_so (lacks_dirty core r.ask) update_work + if_so (not (is_held r.phase) && is_changed core r) 12
 
 -- a request has as much left where both are the same
 pub request_still : (core now : Core) (x : Open) → left_beside now x.request ≡ left_beside core x.request → lacks_note now x.request ≡ lacks_note core x.request → request_left now x ≡ request_left core x

@@ -27,7 +27,7 @@ use Rattle.lvm_session.specs.declared.open.Power.TheVariants as power
 use Rattle.lvm_num.specs.Modes.{is_passive}
 use Rattle.lvm_num.proofs.Booleans.{not_so}
 use Rattle.lvm_session.specs.Marks.{is_among}
-use Rattle.lvm_session.specs.Left.{begun_left, copy_left, if_so, is_brought_up, is_held, lacks_dirty, lacks_note, left_of, phase_left, place_turns, read_left, request_left, status_left, step_left, tried_of, turns_of, unbegun_left, update_work, write_left}
+use Rattle.lvm_session.specs.Left.{begun_left, copy_left, if_so, is_brought_up, is_held, lacks_dirty, lacks_note, left_of, phase_left, destination_turns, read_left, request_left, status_left, step_left, tried_of, turns_of, unbegun_left, update_work, write_left}
 use Rattle.lvm_session.specs.Requests.{is_past_held, IsOpenOne, IsPhase}
 use Rattle.lvm_session.specs.Sound.{IsCopy, IsGoing, IsSound}
 use Rattle.lvm_keeps.proofs.FallsLemmas.Pin.{sum_same}
@@ -107,11 +107,11 @@ module _ (at : ℕ) (old new : State) (sound : IsSound old) (on : old.core.power
   places_so : (ask : Ask) → destinations_for after ask ≡ destinations_for core ask
   places_so ask = sym (of_copy (λ (k : OpenCopy). destinations_if (k.moves && is_beside_copy core ask k) k) [])
 
-  place_turns_so : (p : Pp) → place_turns after p ≡ place_turns core p
+  place_turns_so : (p : Pp) → destination_turns after p ≡ destination_turns core p
   place_turns_so p = ap (λ b. if not b && is_brought_up after p then 46 else 0) (missing_so p.disk) ∙ ap (λ b. if not (is_missing core p.disk) && b then 46 else 0) (brought_so p)
 
-  places_turns_so : (ask : Ask) → sum_by (place_turns after) (destinations_for after ask) ≡ sum_by (place_turns core) (destinations_for core ask)
-  places_turns_so ask = ap (sum_by (place_turns after)) (places_so ask) ∙ sum_same (place_turns core) (place_turns after) place_turns_so (destinations_for core ask)
+  places_turns_so : (ask : Ask) → sum_by (destination_turns after) (destinations_for after ask) ≡ sum_by (destination_turns core) (destinations_for core ask)
+  places_turns_so ask = ap (sum_by (destination_turns after)) (places_so ask) ∙ sum_same (destination_turns core) (destination_turns after) place_turns_so (destinations_for core ask)
 
   phase_so : (p : Phase) (r : Request) → phase_left p after r ≡ phase_left p core r
   phase_so phase.Held r = refl
@@ -138,8 +138,8 @@ module _ (at : ℕ) (old new : State) (sound : IsSound old) (on : old.core.power
         by_each (p ∷ ps) inside = (one p (inside p (ap (λ b. b || is_among ps p) (own_pp p))), by_each ps (λ q e. inside q (ap (λ b. is_pp q p || b) e ∙ or_true (is_pp q p))))
 
     -- and to the same place, if a copy moves
-    place_aims_so : is_past_held o.request.phase ≡ true → destination_aims after o.request.ask ≡ destination_aims core o.request.ask
-    place_aims_so past = ap (filter (is_caught after (group_in core o.request.ask))) (places_so o.request.ask)
+    destination_aims_so : is_past_held o.request.phase ≡ true → destination_aims after o.request.ask ≡ destination_aims core o.request.ask
+    destination_aims_so past = ap (filter (is_caught after (group_in core o.request.ask))) (places_so o.request.ask)
         ∙ filter_same (is_caught after (group_in core o.request.ask)) (is_caught core (group_in core o.request.ask)) (destinations_for core o.request.ask) (by_each (destinations_for core o.request.ask) (λ p among. among))
       where
         by_each : (ps : List Pp) → ((p : Pp) → is_among ps p ≡ true → is_among (destinations_for core o.request.ask) p ≡ true) → AllByRecursion (λ (p : Pp). is_caught after (group_in core o.request.ask) p ≡ is_caught core (group_in core o.request.ask) p) ps
@@ -150,7 +150,7 @@ module _ (at : ℕ) (old new : State) (sound : IsSound old) (on : old.core.power
         )
 
     goes_so : is_past_held o.request.phase ≡ true → aims after o.request.ask ++ destination_aims after o.request.ask ≡ aims core o.request.ask ++ destination_aims core o.request.ask
-    goes_so past = ap (λ (ps : List Pp). ps ++ destination_aims after o.request.ask) (aims_so past) ∙ ap (λ (ps : List Pp). aims core o.request.ask ++ ps) (place_aims_so past)
+    goes_so past = ap (λ (ps : List Pp). ps ++ destination_aims after o.request.ask) (aims_so past) ∙ ap (λ (ps : List Pp). aims core o.request.ask ++ ps) (destination_aims_so past)
 
     changed_so : (p : Phase) → o.request.phase ≡ p → if_so (not (is_held p) && is_changed after o.request) 12 ≡ if_so (not (is_held p) && is_changed core o.request) 12
     changed_so phase.Held e = refl

@@ -24,7 +24,7 @@ use Rattle.lvm_session.specs.State.{Core, State, is_there}
 use Rattle.lvm_session.specs.Judging.{copies_for, is_changed, is_missing, is_running, is_settled, is_stale, is_usable, is_wanted_stale, destinations_for}
 use Rattle.lvm_session.specs.Enabled.{same_status}
 use Rattle.lvm_session.specs.Events.{flown}
-use Rattle.lvm_session.specs.Left.{copy_left, if_so, is_brought_up, is_held, lacks_dirty, left_of, place_turns, request_left, status_left, turns_of, update_work, work_left}
+use Rattle.lvm_session.specs.Left.{copy_left, if_so, is_brought_up, is_held, lacks_dirty, left_of, destination_turns, request_left, status_left, turns_of, update_work, work_left}
 use Rattle.lvm_session.specs.Sound.{IsGoing, count_if, is_clearing}
 use Rattle.lvm_keeps.proofs.Lists.{count_cons}
 use Rattle.lvm_keeps.proofs.FallsLemmas.Pin.{sum_same}
@@ -113,7 +113,7 @@ module _ (core : Core) (going : IsGoing core) (next : Stored) (disk : ℕ) (stat
 
   requests_same : (x : Open) → request_left after x ≡ request_left core x
   requests_same x = request_still core after x
-      (ap (λ n. update_work + n + sum_by (place_turns core) (destinations_for core x.request.ask) + if_so (lacks_dirty core x.request.ask) update_work + if_so (not (is_held x.request.phase) && is_changed core x.request) 12) (sum_same (turns_of core) (turns_of after) turns_same (copies_for core x.request.ask)))
+      (ap (λ n. update_work + n + sum_by (destination_turns core) (destinations_for core x.request.ask) + if_so (lacks_dirty core x.request.ask) update_work + if_so (not (is_held x.request.phase) && is_changed core x.request) 12) (sum_same (turns_of core) (turns_of after) turns_same (copies_for core x.request.ask)))
       refl
 
   -- ---- the status has less left

@@ -21,7 +21,7 @@ use Rattle.lvm_session.specs.declared.bringing.OpenCopy.{OpenCopy}
 use Rattle.lvm_session.specs.declared.bringing.Step.{Step}
 use Rattle.lvm_session.specs.declared.flown.Flown.{Flown}
 use Rattle.lvm_session.specs.declared.open.Open.{Open}
-use Rattle.lvm_session.specs.Left.{begun_left, copy_left, if_so, is_brought_up, is_held, place_turns, read_left, request_left, step_left, tried_of, turns_of, unbegun_left, update_work}
+use Rattle.lvm_session.specs.Left.{begun_left, copy_left, if_so, is_brought_up, is_held, destination_turns, read_left, request_left, step_left, tried_of, turns_of, unbegun_left, update_work}
 use Rattle.lvm_keeps.proofs.KeepsLemmas.Landing.{or_parts}
 use Rattle.lvm_keeps.proofs.LeftLemmas.Leaving.{phase_still}
 use Rattle.lvm_keeps_events.proofs.JudgingLemmas.DuesMarks.{own_pp, pp_same}
@@ -88,33 +88,33 @@ module _ (core : Core) (c : OpenCopy) (is : core.copy ≡ Some c) (runs : is_run
       nothing false x = refl
 
   -- the place to which it was to move has no turns any more, where there was one
-  gone_place : (p : Pp) → place_turns now p ≡ 0
+  gone_place : (p : Pp) → destination_turns now p ≡ 0
   gone_place p = by (not (is_missing core p.disk))
     where
       by : (b : Bool) → ◌≡◌ {A = ℕ} (if b && false then 46 else 0) 0
       by true = refl
       by false = refl
 
-  was_place : place_turns core c.pp ≡ 46
+  was_place : destination_turns core c.pp ≡ 46
   was_place = ap (λ (b : Bool). if not b && is_brought_up core c.pp then 46 else 0) here ∙ ap (λ (b : Bool). if b then 46 else 0) (brought c.pp ∙ own_pp c.pp)
 
   places_were : (ask : Ask) → destinations_for core ask ≡ destinations_if (c.moves && is_beside_copy core ask c) c
   places_were ask = ap (λ m. option_map_or (λ (k : OpenCopy). destinations_if (k.moves && is_beside_copy core ask k) k) m []) is
 
   places_drop : (ask : Ask) (b : Bool) → (c.moves && is_beside_copy core ask c) ≡ b
-      → ((destination_aims now ask ≡ destination_aims core ask) × (sum_by (place_turns now) (destinations_for now ask) ≤ sum_by (place_turns core) (destinations_for core ask))) ⊎ (sum_by (place_turns now) (destinations_for now ask) + 12 ≤ sum_by (place_turns core) (destinations_for core ask))
+      → ((destination_aims now ask ≡ destination_aims core ask) × (sum_by (destination_turns now) (destinations_for now ask) ≤ sum_by (destination_turns core) (destinations_for core ask))) ⊎ (sum_by (destination_turns now) (destinations_for now ask) + 12 ≤ sum_by (destination_turns core) (destinations_for core ask))
   places_drop ask false e =
       let were : destinations_for core ask ≡ [] = places_were ask ∙ ap (λ b. destinations_if b c) e in
       let are : destinations_for now ask ≡ [] = ap (λ b. destinations_if b c) e in
-      let none : sum_by (place_turns now) (destinations_for now ask) ≡ 0 = ap (sum_by (place_turns now)) are in
+      let none : sum_by (destination_turns now) (destinations_for now ask) ≡ 0 = ap (sum_by (destination_turns now)) are in
       inl (ap (filter (is_caught now (group_in core ask))) are ∙ sym (ap (filter (is_caught core (group_in core ask))) were), omega (arith, none))
   places_drop ask true e =
       let were : destinations_for core ask ≡ c.pp ∷ [] = places_were ask ∙ ap (λ b. destinations_if b c) e in
       let are : destinations_for now ask ≡ c.pp ∷ [] = ap (λ b. destinations_if b c) e in
-      let old : sum_by (place_turns core) (destinations_for core ask) ≡ sum_by (place_turns core) (c.pp ∷ []) = ap (sum_by (place_turns core)) were in
-      let new : sum_by (place_turns now) (destinations_for now ask) ≡ sum_by (place_turns now) (c.pp ∷ []) = ap (sum_by (place_turns now)) are in
-      let old_one = sum_by-cons (place_turns core) c.pp [] in
-      let new_one = sum_by-cons (place_turns now) c.pp [] in
+      let old : sum_by (destination_turns core) (destinations_for core ask) ≡ sum_by (destination_turns core) (c.pp ∷ []) = ap (sum_by (destination_turns core)) were in
+      let new : sum_by (destination_turns now) (destinations_for now ask) ≡ sum_by (destination_turns now) (c.pp ∷ []) = ap (sum_by (destination_turns now)) are in
+      let old_one = sum_by-cons (destination_turns core) c.pp [] in
+      let new_one = sum_by-cons (destination_turns now) c.pp [] in
       let high = was_place in
       let low = gone_place c.pp in
       inr (omega (arith, old, new, old_one, new_one, high, low))
@@ -131,7 +131,7 @@ module _ (core : Core) (c : OpenCopy) (is : core.copy ≡ Some c) (runs : is_run
       all_less = each_less (turns_of core) (turns_of now) turns_less (copies_for core r.ask)
 
       by : (b : Bool) → list_any (λ (p : Pp). is_pp p c.pp) (copies_for core r.ask) ≡ b
-          → ((destination_aims now r.ask ≡ destination_aims core r.ask) × (sum_by (place_turns now) (destinations_for now r.ask) ≤ sum_by (place_turns core) (destinations_for core r.ask))) ⊎ (sum_by (place_turns now) (destinations_for now r.ask) + 12 ≤ sum_by (place_turns core) (destinations_for core r.ask))
+          → ((destination_aims now r.ask ≡ destination_aims core r.ask) × (sum_by (destination_turns now) (destinations_for now r.ask) ≤ sum_by (destination_turns core) (destinations_for core r.ask))) ⊎ (sum_by (destination_turns now) (destinations_for now r.ask) + 12 ≤ sum_by (destination_turns core) (destinations_for core r.ask))
           → unbegun_left now r ≤ unbegun_left core r
       by true some (inl place) =
           let one = found_at (λ (p : Pp). is_pp p c.pp) (copies_for core r.ask) some in

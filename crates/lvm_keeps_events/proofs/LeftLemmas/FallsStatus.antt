@@ -34,7 +34,7 @@ use Rattle.lvm_session.specs.Bringing.{copy_ends, end_of, is_whole}
 use Rattle.lvm_session.specs.Enabled.{is_lost, same_status}
 use Rattle.lvm_num.specs.Modes.{is_passive}
 use Rattle.lvm_num.proofs.Booleans.{not_so, not_either}
-use Rattle.lvm_session.specs.Left.{begun_left, copy_left, if_so, is_brought_up, is_held, lacks_dirty, lacks_note, left_by, left_of, phase_left, place_turns, read_left, request_left, status_left, turns_of, unbegun_left, unstarted_writes, update_work, work_left, write_left}
+use Rattle.lvm_session.specs.Left.{begun_left, copy_left, if_so, is_brought_up, is_held, lacks_dirty, lacks_note, left_by, left_of, phase_left, destination_turns, read_left, request_left, status_left, turns_of, unbegun_left, unstarted_writes, update_work, work_left, write_left}
 use Rattle.lvm_session.specs.Marks.{is_among}
 use Rattle.lvm_session.specs.Sound.{IsCopy, IsStaleCopy, count_if}
 use Rattle.lvm_session.proofs.MovesLemmas.{move_of, stale_of}
@@ -275,7 +275,7 @@ module _ (e : WriteEnd) (r : Reviewed e) (brings : Brings e r) (noted : (d : ℕ
 
   -- ---- the destination of a move
 
-  place_one : (group : ℕ) (p : Pp) → ((is_caught after group p ≡ is_caught core group p) × (place_turns after p ≤ place_turns core p)) ⊎ (place_turns after p + 12 ≤ place_turns core p)
+  place_one : (group : ℕ) (p : Pp) → ((is_caught after group p ≡ is_caught core group p) × (destination_turns after p ≤ destination_turns core p)) ⊎ (destination_turns after p + 12 ≤ destination_turns core p)
   place_one group p = by (is_brought_up after p) (is_brought_up core p) (is_missing after p.disk) (is_missing core p.disk) (is_caught after group p) (is_caught core group p)
       (brings.brought p) (up_there core e.going.reviewed p) (up_there after brings.reviewed p) (caught_up core group p) (caught_up after group p) (brings.carried group p)
     where
@@ -295,25 +295,25 @@ module _ (e : WriteEnd) (r : Reviewed e) (brings : Brings e r) (noted : (d : ℕ
       by false false false true false false up there there_now caught caught_now carried = inl (refl, omega arith)
       by false false false false false false up there there_now caught caught_now carried = inl (refl, omega arith)
 
-  place_drop : (group : ℕ) (ps : List Pp) → ((filter (is_caught after group) ps ≡ filter (is_caught core group) ps) × (sum_by (place_turns after) ps ≤ sum_by (place_turns core) ps)) ⊎ (sum_by (place_turns after) ps + 12 ≤ sum_by (place_turns core) ps)
+  place_drop : (group : ℕ) (ps : List Pp) → ((filter (is_caught after group) ps ≡ filter (is_caught core group) ps) × (sum_by (destination_turns after) ps ≤ sum_by (destination_turns core) ps)) ⊎ (sum_by (destination_turns after) ps + 12 ≤ sum_by (destination_turns core) ps)
   place_drop group [] = inl (refl, omega arith)
   place_drop group (p ∷ ps) = by (place_one group p) (place_drop group ps)
     where
-      by : ((is_caught after group p ≡ is_caught core group p) × (place_turns after p ≤ place_turns core p)) ⊎ (place_turns after p + 12 ≤ place_turns core p)
-          → ((filter (is_caught after group) ps ≡ filter (is_caught core group) ps) × (sum_by (place_turns after) ps ≤ sum_by (place_turns core) ps)) ⊎ (sum_by (place_turns after) ps + 12 ≤ sum_by (place_turns core) ps)
-          → ((filter (is_caught after group) (p ∷ ps) ≡ filter (is_caught core group) (p ∷ ps)) × (sum_by (place_turns after) (p ∷ ps) ≤ sum_by (place_turns core) (p ∷ ps))) ⊎ (sum_by (place_turns after) (p ∷ ps) + 12 ≤ sum_by (place_turns core) (p ∷ ps))
+      by : ((is_caught after group p ≡ is_caught core group p) × (destination_turns after p ≤ destination_turns core p)) ⊎ (destination_turns after p + 12 ≤ destination_turns core p)
+          → ((filter (is_caught after group) ps ≡ filter (is_caught core group) ps) × (sum_by (destination_turns after) ps ≤ sum_by (destination_turns core) ps)) ⊎ (sum_by (destination_turns after) ps + 12 ≤ sum_by (destination_turns core) ps)
+          → ((filter (is_caught after group) (p ∷ ps) ≡ filter (is_caught core group) (p ∷ ps)) × (sum_by (destination_turns after) (p ∷ ps) ≤ sum_by (destination_turns core) (p ∷ ps))) ⊎ (sum_by (destination_turns after) (p ∷ ps) + 12 ≤ sum_by (destination_turns core) (p ∷ ps))
       by (inl one) (inl rest) = inl (
         ap (λ (b : Bool). if b then p ∷ filter (is_caught after group) ps else filter (is_caught after group) ps) one.0 ∙ ap (λ (qs : List Pp). if is_caught core group p then p ∷ qs else qs) rest.0,
-        let a = sum_by-cons (place_turns after) p ps in let b = sum_by-cons (place_turns core) p ps in let x = one.1 in let y = rest.1 in omega (arith, a, b, x, y),
+        let a = sum_by-cons (destination_turns after) p ps in let b = sum_by-cons (destination_turns core) p ps in let x = one.1 in let y = rest.1 in omega (arith, a, b, x, y),
       )
-      by (inl one) (inr rest) = let a = sum_by-cons (place_turns after) p ps in let b = sum_by-cons (place_turns core) p ps in let x = one.1 in inr (omega (arith, a, b, x, rest))
-      by (inr one) (inl rest) = let a = sum_by-cons (place_turns after) p ps in let b = sum_by-cons (place_turns core) p ps in let y = rest.1 in inr (omega (arith, a, b, one, y))
-      by (inr one) (inr rest) = let a = sum_by-cons (place_turns after) p ps in let b = sum_by-cons (place_turns core) p ps in inr (omega (arith, a, b, one, rest))
+      by (inl one) (inr rest) = let a = sum_by-cons (destination_turns after) p ps in let b = sum_by-cons (destination_turns core) p ps in let x = one.1 in inr (omega (arith, a, b, x, rest))
+      by (inr one) (inl rest) = let a = sum_by-cons (destination_turns after) p ps in let b = sum_by-cons (destination_turns core) p ps in let y = rest.1 in inr (omega (arith, a, b, one, y))
+      by (inr one) (inr rest) = let a = sum_by-cons (destination_turns after) p ps in let b = sum_by-cons (destination_turns core) p ps in inr (omega (arith, a, b, one, rest))
 
   -- a request has the same
-  places_drop : (ask : Ask) → ((destination_aims after ask ≡ destination_aims core ask) × (sum_by (place_turns after) (destinations_for after ask) ≤ sum_by (place_turns core) (destinations_for core ask)))
-      ⊎ (sum_by (place_turns after) (destinations_for after ask) + 12 ≤ sum_by (place_turns core) (destinations_for core ask))
-  places_drop ask = subst (λ (ps : List Pp). ((filter (is_caught after (group_in core ask)) ps ≡ destination_aims core ask) × (sum_by (place_turns after) ps ≤ sum_by (place_turns core) (destinations_for core ask))) ⊎ (sum_by (place_turns after) ps + 12 ≤ sum_by (place_turns core) (destinations_for core ask)))
+  places_drop : (ask : Ask) → ((destination_aims after ask ≡ destination_aims core ask) × (sum_by (destination_turns after) (destinations_for after ask) ≤ sum_by (destination_turns core) (destinations_for core ask)))
+      ⊎ (sum_by (destination_turns after) (destinations_for after ask) + 12 ≤ sum_by (destination_turns core) (destinations_for core ask))
+  places_drop ask = subst (λ (ps : List Pp). ((filter (is_caught after (group_in core ask)) ps ≡ destination_aims core ask) × (sum_by (destination_turns after) ps ≤ sum_by (destination_turns core) (destinations_for core ask))) ⊎ (sum_by (destination_turns after) ps + 12 ≤ sum_by (destination_turns core) (destinations_for core ask)))
       (brings.places ask) (place_drop (group_in core ask) (destinations_for core ask))
 
   -- ---- its phase
@@ -349,10 +349,10 @@ module _ (e : WriteEnd) (r : Reviewed e) (brings : Brings e r) (noted : (d : ℕ
       copies_are = sum_by (turns_of after) (copies_for core x.ask)
 
       places_were : ℕ
-      places_were = sum_by (place_turns core) (destinations_for core x.ask)
+      places_were = sum_by (destination_turns core) (destinations_for core x.ask)
 
       places_are : ℕ
-      places_are = sum_by (place_turns after) (destinations_for after x.ask)
+      places_are = sum_by (destination_turns after) (destinations_for after x.ask)
 
       add : (s t y z d f c g p q : ℕ) → t ≤ s → z ≤ y → f ≡ d → g ≡ c → q ≤ p → 256 + t + z + f + g + q ≤ 256 + s + y + d + c + p
       add s t y z d f c g p q h i j k l = omega (arith, h, i, j, k, l)

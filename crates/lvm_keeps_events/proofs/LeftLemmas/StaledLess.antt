@@ -18,7 +18,7 @@ use Rattle.lvm_session.specs.Judging.{copies_for, group_in, group_of, is_caught,
 use Rattle.lvm_session.specs.State.{Core}
 use Rattle.lvm_session.specs.declared.open.Open.{Open}
 use Rattle.lvm_num.specs.Modes.{is_passive}
-use Rattle.lvm_session.specs.Left.{begun_left, if_so, is_brought_up, is_held, lacks_dirty, lacks_note, phase_left, place_turns, read_left, request_left, status_left, turns_of, unbegun_left, update_work}
+use Rattle.lvm_session.specs.Left.{begun_left, if_so, is_brought_up, is_held, lacks_dirty, lacks_note, phase_left, destination_turns, read_left, request_left, status_left, turns_of, unbegun_left, update_work}
 use Rattle.lvm_keeps.proofs.FallsLemmas.Pin.{sum_same}
 use Rattle.lvm_keeps_events.proofs.Marking.{count_alike, filter_alike}
 use Rattle.lvm_keeps_events.proofs.JudgingLemmas.Staling.{dirty_same, IsStaler, missing_same, staler, usable_same}
@@ -33,7 +33,7 @@ module _ (core : Core) (due : Pp → Bool) (wanted : Status) (writes : Writes) (
       ap (λ (b : Bool). if b then 0 else if is_usable now p then (if is_brought_up core p then 34 else 22) else if is_brought_up core p then 46 else if is_settled core p then 0 else 34) (missing_same core due wanted writes like p.disk)
       ∙ ap (λ (b : Bool). if is_missing core p.disk then 0 else if b then (if is_brought_up core p then 34 else 22) else if is_brought_up core p then 46 else if is_settled core p then 0 else 34) (usable_same core due wanted writes like p)
 
-  place_same : (p : Pp) → place_turns now p ≡ place_turns core p
+  place_same : (p : Pp) → destination_turns now p ≡ destination_turns core p
   place_same p = ap (λ (b : Bool). if not b && is_brought_up core p then 46 else 0) (missing_same core due wanted writes like p.disk)
 
   changed_same : (r : Request) → is_changed now r ≡ is_changed core r
@@ -52,7 +52,7 @@ module _ (core : Core) (due : Pp → Bool) (wanted : Status) (writes : Writes) (
   unbegun_same : (r : Request) → unbegun_left now r ≡ unbegun_left core r
   unbegun_same r =
       let turns = sum_same (turns_of core) (turns_of now) turns_same (copies_for core r.ask) in
-      let place = sum_same (place_turns core) (place_turns now) place_same (destinations_for core r.ask) in
+      let place = sum_same (destination_turns core) (destination_turns now) place_same (destinations_for core r.ask) in
       let dirty : if_so (lacks_dirty now r.ask) update_work ≡ if_so (lacks_dirty core r.ask) update_work = ap (λ b. if_so (is_passive (mode_of core r.ask) && not b) update_work) (dirty_same core due wanted writes like (lv_of r.ask)) in
       let changed_now : if_so (not (is_held r.phase) && is_changed now r) 12 ≡ if_so (not (is_held r.phase) && is_changed core r) 12 = ap (λ b. if_so (not (is_held r.phase) && b) 12) (changed_same r) in
       let phases = phase_same r.phase r in

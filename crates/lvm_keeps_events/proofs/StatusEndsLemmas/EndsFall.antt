@@ -33,7 +33,7 @@ use Rattle.lvm_session.specs.Judging.{copies_for, group_of, is_changed, is_missi
 use Rattle.lvm_session.specs.Enabled.{is_lost}
 use Rattle.lvm_session.specs.Ends.{LosesDisk}
 use Rattle.lvm_session.specs.Marks.{Reviews}
-use Rattle.lvm_session.specs.Left.{begun_left, copy_left, if_so, is_held, lacks_dirty, lacks_note, left_of, phase_left, place_turns, read_left, request_left, status_left, turns_of, unbegun_left, update_work, work_left}
+use Rattle.lvm_session.specs.Left.{begun_left, copy_left, if_so, is_held, lacks_dirty, lacks_note, left_of, phase_left, destination_turns, read_left, request_left, status_left, turns_of, unbegun_left, update_work, work_left}
 use Rattle.lvm_session.specs.Owners.{flies}
 use Rattle.lvm_session.specs.Sound.{IsGoing, pins}
 use Rattle.lvm_keeps.proofs.KeepsLemmas.NoteStart.{each_counted}
@@ -140,7 +140,7 @@ module _ (core : Core) (going : IsGoing core) (disk at : ℕ) (row : Flown) (the
           (and_of (r.pinned && not (is_missing core t.pp.disk)) (not (is_named core.cache t.pp.disk (lv_of r.ask) (group_of r.ask))) b.0 (ap not i)) (ap not j)
 
   unbegun_by : (r : Request) (keep : r.pinned ≡ true → 1 ≤ pins_of core.cache.entries (lv_of r.ask) (group_of r.ask)) → unbegun_left after r ≤ unbegun_left core r
-  unbegun_by r keep = add (sum_by (turns_of core) (copies_for core r.ask)) (sum_by (place_turns core) (destinations_for core r.ask)) (if_so (lacks_dirty core r.ask) update_work) (if_so (not (is_held r.phase) && is_changed core r) 12) (phase_left r.phase core r) (phase_left r.phase after r) (phase_less core after r (lacks_by r keep) r.phase)
+  unbegun_by r keep = add (sum_by (turns_of core) (copies_for core r.ask)) (sum_by (destination_turns core) (destinations_for core r.ask)) (if_so (lacks_dirty core r.ask) update_work) (if_so (not (is_held r.phase) && is_changed core r) 12) (phase_left r.phase core r) (phase_left r.phase after r) (phase_less core after r (lacks_by r keep) r.phase)
     where
       add : (s y d c p q : ℕ) → q ≤ p → 256 + s + y + d + c + q ≤ 256 + s + y + d + c + p
       add s y d c p q l = omega (arith, l)

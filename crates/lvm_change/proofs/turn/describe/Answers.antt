@@ -3,7 +3,7 @@ use Rattle.lvm_num.specs.Buffer.{Buffer}
 use Rattle.lvm_num.specs.Disks.{Disks, has}
 use Rattle.lvm_num.specs.Votes.{CanWrite}
 use Rattle.lvm_disk.specs.Device.{Device}
-use Rattle.lvm_change.specs.Turn.{MayDescribe, DescriptionGives}
+use Rattle.lvm_change.specs.Transition.{MayDescribe, DescriptionGives}
 use Rattle.lvm_change.proofs.DescribeLemmas.{nothing}
 use Rattle.lvm_change.proofs.turn.describe.Goals as goal
 

@@ -7,7 +7,7 @@ use Rattle.lvm_kept.specs.Torn.{IsOfRecord}
 use Rattle.lvm_rec.specs.Homes.{Flips}
 use Rattle.lvm_write.specs.Writes.{DiskWritesLeave, EachTried}
 use Rattle.lvm_write.specs.Written.{write_of, StandsTold}
-use Rattle.lvm_change.specs.declared.turn.Turned.TheVariants as turned
+use Rattle.lvm_change.specs.declared.turn.TransitionEnd.TheVariants as turned
 use Rattle.lvm_change.proofs.DescribeLemmas.{described, tried}
 use Rattle.lvm_change.proofs.turn.put_descriptor.Goals as goal
 

@@ -8,7 +8,7 @@ use Rattle.lvm_commit.specs.Committed.{next_stamp}
 use Rattle.lvm_session.specs.declared.session.Session.{Session}
 use Rattle.lvm_session.specs.Fields.{core_of}
 use Rattle.lvm_session.specs.State.{state}
-use Rattle.lvm_change.specs.Turn.{MayTurn, TurnGives}
+use Rattle.lvm_change.specs.Transition.{MayMakeTransition, TransitionGives}
 use Rattle.lvm_turnover.specs.Turning.{IsTurnBy, after_turn}
 use Rattle.lvm_turnover.proofs.SendingLemmas.{may_turn, sent_core}
 use Rattle.lvm_turnover.proofs.turning.send.Goals as goal
@@ -29,8 +29,8 @@ next_stamp-last-requires g c =
     let left = c.requires.may.commit.numbers in
     omega (arith, is, one, left)
 
-pub turn_over-requires : goal.turn_over-requires
-turn_over-requires g c =
+pub make_transition-requires : goal.make_transition-requires
+make_transition-requires g c =
     let self : Session = c.args.session.now in
     let stamp_is : c.stamp-stamp.result ≡ self.updater.stamp = c.stamp-stamp.ensures ∙ ap (λ (s : Session). s.updater.stamp) c.take_buffer-buf.ensures.taken in
     let bound : c.stamp-stamp.result.epoch < 2 ^ 64 = omega arith in
@@ -38,7 +38,7 @@ turn_over-requires g c =
     let was : c.spell_status-count.new.session.descriptor ≡ self.descriptor = ap (λ (s : Session). s.descriptor) c.spell_status-count.ensures.same ∙ ap (λ (s : Session). s.descriptor) c.take_buffer-buf.ensures.taken in
     let by : IsTurnBy c.args.change.now self.descriptor c.turn_by-turn.result = subst (λ (d : Descriptor). IsTurnBy c.args.change.now d c.turn_by-turn.result) was c.turn_by-turn.ensures in
     record {
-      may = subst (λ (x : Stamp). MayTurn c.turn_by-turn.result (has c.args.there) x (g.S.Shelf.device c.args.shelf.now)) (sym stamp_is)
+      may = subst (λ (x : Stamp). MayMakeTransition c.turn_by-turn.result (has c.args.there) x (g.S.Shelf.device c.args.shelf.now)) (sym stamp_is)
           (may_turn c.args.change.now (has c.args.there) (state (g.S.Shelf.device c.args.shelf.now) (core_of self)) c.requires.may c.turn_by-turn.result by low);
     }
 
@@ -50,18 +50,18 @@ returns-clause-sent g c =
     let stamp_is : c.stamp-stamp.result ≡ self.updater.stamp = c.stamp-stamp.ensures ∙ ap (λ (s : Session). s.updater.stamp) taken_is in
     let last_is : c.next_stamp-last.result ≡ after_turn self.updater.stamp = c.next_stamp-last.ensures ∙ ap next_stamp (c.next_stamp-first.ensures ∙ ap next_stamp stamp_is) in
     let old : Device = g.S.Shelf.device c.args.shelf.now in
-    let new : Device = g.S.Shelf.device c.turn_over.new.shelf in
+    let new : Device = g.S.Shelf.device c.make_transition.new.shelf in
     let p : ℕ = c.args.patience.now.left in
-    let q : ℕ = c.turn_over.new.patience.left in
-    let homes : Homes = c.turn_over.new.homes in
+    let q : ℕ = c.make_transition.new.patience.left in
+    let homes : Homes = c.make_transition.new.homes in
     let spelled = c.spell_status-count.new.session in
     let spelled_is = c.spell_status-count.ensures.same in
-    let zero = subst (λ (s : Session). TurnGives c.turn_by-turn.result (has c.args.there) c.stamp-stamp.result s.homes homes c.take_buffer-buf.result.number p q old new c.turn_over.result) spelled_is c.turn_over.ensures in
-    let one = subst (λ (x : Stamp). TurnGives c.turn_by-turn.result (has c.args.there) x taken.homes homes c.take_buffer-buf.result.number p q old new c.turn_over.result) stamp_is zero in
-    let two = subst (λ (s : Session). TurnGives c.turn_by-turn.result (has c.args.there) self.updater.stamp s.homes homes c.take_buffer-buf.result.number p q old new c.turn_over.result) taken_is one in
+    let zero = subst (λ (s : Session). TransitionGives c.turn_by-turn.result (has c.args.there) c.stamp-stamp.result s.homes homes c.take_buffer-buf.result.number p q old new c.make_transition.result) spelled_is c.make_transition.ensures in
+    let one = subst (λ (x : Stamp). TransitionGives c.turn_by-turn.result (has c.args.there) x taken.homes homes c.take_buffer-buf.result.number p q old new c.make_transition.result) stamp_is zero in
+    let two = subst (λ (s : Session). TransitionGives c.turn_by-turn.result (has c.args.there) self.updater.stamp s.homes homes c.take_buffer-buf.result.number p q old new c.make_transition.result) taken_is one in
     record {
       turn = c.turn_by-turn.result;
       by = subst (λ (d : Descriptor). IsTurnBy c.args.change.now d c.turn_by-turn.result) (ap (λ (s : Session). s.descriptor) spelled_is ∙ ap (λ (s : Session). s.descriptor) taken_is) c.turn_by-turn.ensures;
-      gives = subst (λ (n : ℕ). TurnGives c.turn_by-turn.result (has c.args.there) self.updater.stamp self.homes homes n p q old new c.turn_over.result) c.take_buffer-buf.ensures.number two;
+      gives = subst (λ (n : ℕ). TransitionGives c.turn_by-turn.result (has c.args.there) self.updater.stamp self.homes homes n p q old new c.make_transition.result) c.take_buffer-buf.ensures.number two;
       is = ap (λ (s : Session). core_of (record s { homes = homes })) spelled_is ∙ sent_core self taken c.set_stamp.new.self homes c.next_stamp-last.result taken_is c.set_stamp.ensures last_is;
     }

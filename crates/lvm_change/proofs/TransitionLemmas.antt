@@ -39,7 +39,7 @@ use Rattle.lvm_commit.proofs.LawsOfWritesLemmas.Holding.{told_before}
 use Rattle.lvm_commit.proofs.LawsOfWritesLemmas.Writes.{statuses_change, status_write_keeps, status_is_held}
 use Rattle.lvm_change_laws.specs.Rule.{MayChange, IsOpenTo, MayTurnTo, members_among, IsShownOn}
 use Rattle.lvm_change_laws.proofs.RuleLemmas.{change_opens, statuses_leave_open, rerowed_may_follow, turn_write_keeps, turn_is_held, turn_is_shown}
-use Rattle.lvm_change.specs.Turn.{HoldsBy, ComesBack}
+use Rattle.lvm_change.specs.Transition.{HoldsBy, ComesBack}
 
 pub no_later : (stamp : Stamp) → IsNoLater stamp stamp
 no_later stamp = grind (arith, nat_tests)

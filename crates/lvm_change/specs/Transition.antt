@@ -25,14 +25,14 @@ use Rattle.lvm_write.specs.Written.{HaveRoom, KeepsShelf, IsDarkened, IsGivenUp}
 use Rattle.lvm_commit.specs.Committed.{next_stamp, HoldsCommitted}
 use Rattle.lvm_commit.specs.LawsOfFinding.{FindsNoMoreOn}
 use Rattle.lvm_change_laws.specs.Rule.{MayChange, IsOpenTo, members_among, IsShownOn}
-use Rattle.lvm_change.specs.declared.turn.Turn.{Turn}
-use Rattle.lvm_change.specs.declared.turn.Turned.{Turned}
-use Rattle.lvm_change.specs.declared.turn.Turned.TheVariants as turned
+use Rattle.lvm_change.specs.declared.turn.Transition.{Transition}
+use Rattle.lvm_change.specs.declared.turn.TransitionEnd.{TransitionEnd}
+use Rattle.lvm_change.specs.declared.turn.TransitionEnd.TheVariants as turned
 
 -- ---- before it
 
 -- The bytes are those of the status and of the next descriptor, which fit their slots.
-pub record AreRecords (turn : Turn) : Type 0 where
+pub record AreRecords (turn : Transition) : Type 0 where
   pub told : IsValidStatus turn.told.now
   pub status : turn.status.now ≡ status_bytes turn.told.now
   pub content : turn.content.now ≡ descriptor_bytes turn.next.now
@@ -40,7 +40,7 @@ pub record AreRecords (turn : Turn) : Type 0 where
   pub fits : length turn.content.now ≤ longest_content kind.Descriptor
 
 -- What lets a group turn, of which these members aren't missing, behind the record of this stamp.
-pub record MayTurn (turn : Turn) (there : Disks) (stamp : Stamp) (device : Device) : Type 0 where
+pub record MayMakeTransition (turn : Transition) (there : Disks) (stamp : Stamp) (device : Device) : Type 0 where
   pub ready : IsReady device
   pub records : AreRecords turn
   pub leaves : Disks
@@ -51,7 +51,7 @@ pub record MayTurn (turn : Turn) (there : Disks) (stamp : Stamp) (device : Devic
   pub numbers : stamp.seq + 2 < 2 ^ 32
 
 -- What lets the descriptor be written behind the status that has this stamp.
-pub record MayDescribe (turn : Turn) (there : Disks) (stamp : Stamp) (device : Device) : Type 0 where
+pub record MayDescribe (turn : Transition) (there : Disks) (stamp : Stamp) (device : Device) : Type 0 where
   pub ready : IsReady device
   pub records : AreRecords turn
   pub valid : IsValid turn.was.now
@@ -68,18 +68,18 @@ abbrev pub HoldsBy : Device → Descriptor → Status → Disks → Stamp → Ho
 HoldsBy device group status there stamp homes = IfSome device.media (λ media. HoldsCommitted (image_of device.sizes media) group status there stamp homes)
 
 -- before a turn they hold a status that says the same of the group's copies
-abbrev pub IsBefore : Turn → Disks → Stamp → Homes → Device → Type 0
+abbrev pub IsBefore : Transition → Disks → Stamp → Homes → Device → Type 0
 IsBefore turn there stamp homes device = (status : Status) × IsRerowed turn.next.now status turn.told.now × HoldsBy device turn.was.now status there stamp homes
 
 -- between its records they hold the status itself, and are open to the next descriptor
-abbrev pub IsBetween : Turn → Disks → Stamp → Homes → Device → Type 0
+abbrev pub IsBetween : Transition → Disks → Stamp → Homes → Device → Type 0
 IsBetween turn there stamp homes device =
     HoldsBy device turn.was.now turn.told.now there stamp homes × IfSome device.media (λ media. IsOpenTo (contents_of (image_of device.sizes media)) turn.was.now turn.next.now there)
 
 -- ---- what is written
 
 -- the sector is one of the status or of the descriptor, under these two stamps, in a slot of one of these disks
-pub record IsOfTurn (turn : Turn) (there : Disks) (first second : Stamp) (d s : ℕ) (value : Sector) : Type 0 where
+pub record IsOfTransition (turn : Transition) (there : Disks) (first second : Stamp) (d s : ℕ) (value : Sector) : Type 0 where
   pub write : RecordWrite
   pub frames : Frames write.kind write.framed
   pub which : ((write.kind ≡ kind.Status) × (write.framed ≡ record { stamp = first; content = status_bytes turn.told.now }))
@@ -99,7 +99,7 @@ pub record HasFewVotes (group next : Descriptor) (written : Disks) (have total :
   pub few : IsFalse (is_enough_to_write by have)
 
 -- whether disks have votes enough to write by both descriptors
-abbrev pub IsByBoth : Descriptor → Descriptor → Disks → Buffer → Turned → Type 0
+abbrev pub IsByBoth : Descriptor → Descriptor → Disks → Buffer → TransitionEnd → Type 0
 IsByBoth group next set buf (turned.Done written back) = (back ≡ buf) × (has written ≡ set) × CanWrite group set × CanWrite next set
 IsByBoth group next set buf (turned.WentOff have total written back) = (back ≡ buf) × (has written ≡ set) × HasFewVotes group next set have total
 IsByBoth group next set buf turned.Dark = ⊥
@@ -117,37 +117,37 @@ pub record ComesBack (there written : Disks) (number : ℕ) (old new : Device) (
 
 -- These disks have votes enough to write by both descriptors; where the disks held what was committed the next one's members among them now hold it and its status, and each of
 -- them shows it, in the slot to which it went.
-pub record HasTurned (turn : Turn) (Before : Type 0) (written : Disks) (last : Stamp) (homes slots : Homes) (new : Device) : Type 0 where
+pub record HasChanged (turn : Transition) (Before : Type 0) (written : Disks) (last : Stamp) (homes slots : Homes) (new : Device) : Type 0 where
   pub enough : CanWrite turn.was.now written
   pub enough_too : CanWrite turn.next.now written
   pub held : Before → HoldsBy new turn.next.now turn.told.now (members_among turn.next.now written) last slots
   pub shown : Before → IfSome new.media (λ media. (disk : ℕ) → IsTrue (written disk) → IsShownOn (image_of new.sizes media) turn.next.now homes disk)
 
 -- how it ends, by its answer
-abbrev pub TurnEnds : Turn → Type 0 → Disks → Stamp → Homes → Homes → ℕ → ℕ → Device → Device → Turned → Type 0
-TurnEnds turn Before there last homes slots number patience old new (turned.Done written buf) = ComesBack there (has written) number old new buf × HasTurned turn Before (has written) last homes slots new
-TurnEnds turn Before there last homes slots number patience old new (turned.WentOff have total written buf) =
+abbrev pub IsTransitionEnd : Transition → Type 0 → Disks → Stamp → Homes → Homes → ℕ → ℕ → Device → Device → TransitionEnd → Type 0
+IsTransitionEnd turn Before there last homes slots number patience old new (turned.Done written buf) = ComesBack there (has written) number old new buf × HasChanged turn Before (has written) last homes slots new
+IsTransitionEnd turn Before there last homes slots number patience old new (turned.WentOff have total written buf) =
     ComesBack there (has written) number old new buf × HasFewVotes turn.was.now turn.next.now (has written) have total
-TurnEnds turn Before there last homes slots number patience old new turned.Dark = IsDarkened number old new
-TurnEnds turn Before there last homes slots number patience old new turned.Stuck = IsGivenUp number patience old new
+IsTransitionEnd turn Before there last homes slots number patience old new turned.Dark = IsDarkened number old new
+IsTransitionEnd turn Before there last homes slots number patience old new turned.Stuck = IsGivenUp number patience old new
 
 -- ---- all of it
 
 -- Whatever the answer: only the two records were brought to these disks, what was kept is kept at each moment, and nothing more is found than the next descriptor, where the
 -- disks held what was committed.
-pub record Turns (turn : Turn) (Before : Type 0) (there : Disks) (first second : Stamp) (homes slots : Homes) (number before after : ℕ) (old new : Device) (result : Turned) : Type 0 where
-  pub ends : TurnEnds turn Before there second homes slots number before old new result
-  pub keeps : KeepsShelf there (IsOfTurn turn there first second) old new
+pub record Turns (turn : Transition) (Before : Type 0) (there : Disks) (first second : Stamp) (homes slots : Homes) (number before after : ℕ) (old new : Device) (result : TransitionEnd) : Type 0 where
+  pub ends : IsTransitionEnd turn Before there second homes slots number before old new result
+  pub keeps : KeepsShelf there (IsOfTransition turn there first second) old new
   pub spends : Spends before after old new
   pub kept : Path DeviceStep (λ d. Before → StaysKept old d) old new
   pub finds : Before → FindsNoMoreOn turn.next.now old new
 
 -- what a turn does behind the record of this stamp,
-abbrev pub TurnGives : Turn → Disks → Stamp → Homes → Homes → ℕ → ℕ → ℕ → Device → Device → Turned → Type 0
-TurnGives turn there stamp homes slots number before after old new result =
+abbrev pub TransitionGives : Transition → Disks → Stamp → Homes → Homes → ℕ → ℕ → ℕ → Device → Device → TransitionEnd → Type 0
+TransitionGives turn there stamp homes slots number before after old new result =
     Turns turn (IsBefore turn there stamp homes old) there (next_stamp stamp) (next_stamp (next_stamp stamp)) homes slots number before after old new result
 
 -- and its second half behind that of the status
-abbrev pub DescriptionGives : Turn → Disks → Stamp → Homes → Homes → ℕ → ℕ → ℕ → Device → Device → Turned → Type 0
+abbrev pub DescriptionGives : Transition → Disks → Stamp → Homes → Homes → ℕ → ℕ → ℕ → Device → Device → TransitionEnd → Type 0
 DescriptionGives turn there stamp homes slots number before after old new result =
     Turns turn (IsBetween turn there stamp homes old) there stamp (next_stamp stamp) homes slots number before after old new result

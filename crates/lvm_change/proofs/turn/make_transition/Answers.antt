@@ -8,10 +8,10 @@ use Rattle.lvm_rec.specs.Homes.{Flips}
 use Rattle.lvm_write.specs.Writes.{DiskWritesLeave, EachTried}
 use Rattle.lvm_write.specs.Written.{write_of, StandsTold, written_well}
 use Rattle.lvm_commit.specs.Committed.{next_stamp}
-use Rattle.lvm_change.specs.declared.turn.Turned.TheVariants as turned
-use Rattle.lvm_change.specs.Turn.{MayDescribe, DescriptionGives}
+use Rattle.lvm_change.specs.declared.turn.TransitionEnd.TheVariants as turned
+use Rattle.lvm_change.specs.Transition.{MayDescribe, DescriptionGives}
 use Rattle.lvm_change.proofs.DescribeLemmas.{may_describe, turned_on, broken_off}
-use Rattle.lvm_change.proofs.turn.turn_over.Goals as goal
+use Rattle.lvm_change.proofs.turn.make_transition.Goals as goal
 
 pub describe-requires : goal.describe-requires
 describe-requires g c =
