@@ -14,6 +14,7 @@ mod pbuf;
 mod place;
 mod record;
 mod rows;
+mod sizes;
 mod status;
 mod text;
 mod valid;
@@ -30,6 +31,10 @@ pub use pbuf::Pbuf;
 pub use place::{Place, Pp};
 pub use record::{Framed, Kind, NoteEntry, Stamp};
 pub use rows::Rows;
+pub use sizes::{
+    BLOCK_BYTES, BUFFER_BYTES, BUFFER_SECTORS, DATA_START, MIB_BLOCKS, MOST_COPIES,
+    MOST_PARTITIONS, PARTITION_SIZES, SCRIPT_CLIENT, TRACK_GROUP,
+};
 pub use status::{Status, StatusRow};
 pub use text::Text;
 pub use word::{fill, word_of};

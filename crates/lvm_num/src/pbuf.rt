@@ -1,13 +1,11 @@
 //! A buffer of 256 sectors, which moves from hand to hand.
-ghost use Rattle.std.specs.Prelude.{◌≡◌, ◌*◌, ◌<◌, ◌≤◌, length, take, IfOk, slice_get, slice_set, replicate};
+ghost use Rattle.std.specs.Prelude.{true, ◌≡◌, ◌*◌, ◌<◌, ◌≤◌, length, take, IfOk, slice_get, slice_set, replicate};
 ghost use Rattle.std.specs.List.{flat_map};
 ghost use Rattle.lvm_num.specs.Buffer.{zero_sector};
 
-use crate::Memory;
+use crate::{BUFFER_SECTORS, Memory};
 use std::alloc::Global;
 use std::marker::Model;
-
-const SECTORS: usize = 256;
 
 /// A numbered buffer of 256 sectors of 512 bytes. Contracts see its number and the list of its sectors.
 #[derive(Drop)]
@@ -33,7 +31,7 @@ impl Pbuf {
         ensures { IfOk result (λ buf. buf ≡ record { number = number; sectors = replicate 256 zero_sector }) }
     {
         let mut sectors = Vec::new(alloc);
-        sectors.resize(SECTORS, [0; 512])?;
+        sectors.resize(BUFFER_SECTORS as usize, [0; 512])?;
         Ok(Pbuf { number, sectors })
     }
 
@@ -52,11 +50,18 @@ impl Pbuf {
         &self.sectors[k as usize]
     }
 
+    /// Always true: it has 256 sectors, whatever was put into them.
+    pub fn is_whole(&self) -> bool
+        ensures always { result ≡ true }
+        ensures length { length self.now.sectors ≡ 256 }
+    {
+        self.sectors.len() == BUFFER_SECTORS as usize
+    }
+
     /// Puts 512 bytes into its sector `k`, from 0.
     pub fn set_sector(&mut self, k: u32, from: &[u8; 512])
         requires { k < 256 }
         ensures set { self.new ≡ record self.old { sectors = slice_set self.old.sectors k from.now } }
-        ensures length { length self.old.sectors ≡ 256 }
     {
         self.sectors[k as usize] = *from;
     }

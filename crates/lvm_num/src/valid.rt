@@ -10,23 +10,19 @@ ghost use Rattle.lvm_num.specs.Marks.{AreCounts, AreFree, AreCounted, spot};
 
 use crate::bits::{has_bit, set_bit};
 use crate::listed::has_partition_on;
-use crate::{DISKS, LvRow, Name, Pp, PvRow, StatusRow};
+use crate::{DISKS, LvRow, MOST_PARTITIONS, Name, PARTITION_SIZES, Pp, PvRow, StatusRow};
 
 const PLACES: usize = DISKS as usize;
 
-const MOST_PPS: u16 = 1016;
-
 const MOST_VOLUMES: u16 = 511;
 
-const MARKS: usize = 16256;
-
-const SIZES: [u16; 11] = [1, 2, 4, 8, 16, 32, 64, 128, 256, 512, 1024];
+const MARKS: usize = DISKS as usize * MOST_PARTITIONS as usize / 8;
 
 /// Whether a partition may have so many MiB.
 pub fn is_size(mib: u16) -> bool
     ensures { result ≡ is_size mib }
 {
-    SIZES.contains(&mib)
+    PARTITION_SIZES.contains(&mib)
 }
 
 /// How many partitions the member on each disk has, 0 for a disk that is no member; None where the
@@ -39,7 +35,7 @@ pub fn partition_counts(pvs: &[PvRow]) -> Option<[u16; 128]>
     let mut counts = [0; PLACES];
     for row in pvs {
         let disk = usize::from(row.disk);
-        if disk >= PLACES || row.pps == 0 || row.pps > MOST_PPS || counts[disk] != 0 {
+        if disk >= PLACES || row.pps == 0 || row.pps > MOST_PARTITIONS || counts[disk] != 0 {
             return None;
         }
         counts[disk] = row.pps;
@@ -147,7 +143,7 @@ fn mark_all(marks: &mut [u8; 16256], counts: &[u16; 128], map: &[Pp]) -> bool
 fn spot_of(pp: Pp) -> usize
     ensures { result ≡ spot pp }
 {
-    usize::from(MOST_PPS) * usize::from(pp.disk) + usize::from(pp.pp)
+    usize::from(MOST_PARTITIONS) * usize::from(pp.disk) + usize::from(pp.pp)
 }
 
 /// Whether the rows of a status are valid.

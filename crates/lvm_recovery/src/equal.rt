@@ -120,7 +120,6 @@ fn full(buf: Pbuf) -> Pbuf
     ensures full { IsFull result }
     ensures number { result.number ≡ buf.number }
 {
-    let mut buf = buf;
-    buf.set_sector(0, &[0; 512]);
+    let _whole = buf.is_whole();
     buf
 }

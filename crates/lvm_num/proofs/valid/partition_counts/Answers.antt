@@ -7,7 +7,7 @@ use Rattle.lvm_num.specs.Descriptor.{IsMember}
 use Rattle.lvm_num.specs.Marks.{AreCounts}
 use Rattle.lvm_num.proofs.MarksLemmas.Members.{counts-none, small-none, members-more, counts-more, counts-nothing}
 use Rattle.lvm_num.proofs.valid.partition_counts.Goals as goal
-use Rattle.lvm_num.proofs.valid.partition_counts.Goals.{then-disk-ge-PLACES-via-then-disk-ge-PLACES, then-disk-ge-PLACES-via-else-disk-ge-PLACES+then-row-eq0, then-disk-ge-PLACES-via-else-disk-ge-PLACES+else-row-eq0+then-row-gt-MOST_PPS, then-disk-ge-PLACES-via-else-disk-ge-PLACES+else-row-eq0+else-row-gt-MOST_PPS+then-counts-disk-ne0}
+use Rattle.lvm_num.proofs.valid.partition_counts.Goals.{then-disk-ge-PLACES-via-then-disk-ge-PLACES, then-disk-ge-PLACES-via-else-disk-ge-PLACES+then-row-eq0, then-disk-ge-PLACES-via-else-disk-ge-PLACES+else-row-eq0+then-row-gt-MOST_PARTITIONS, then-disk-ge-PLACES-via-else-disk-ge-PLACES+else-row-eq0+else-row-gt-MOST_PARTITIONS+then-counts-disk-ne0}
 
 abbrev no_row : PvRow
 no_row = record { disk = 0; pps = 0; spare = false }
@@ -25,8 +25,8 @@ returns-then-disk-ge-PLACES-clause-members c = (
       absurd (elim c.then-disk-ge-PLACES.branch [
         | then-disk-ge-PLACES-via-then-disk-ge-PLACES w ↦ omega (arith, here.disk, w.if-disk-ge-PLACES.true)
         | then-disk-ge-PLACES-via-else-disk-ge-PLACES+then-row-eq0 w ↦ omega (arith, here.a_partition, w.if-row-eq0.true)
-        | then-disk-ge-PLACES-via-else-disk-ge-PLACES+else-row-eq0+then-row-gt-MOST_PPS w ↦ omega (arith, here.partitions, w.if-row-gt-MOST_PPS.true)
-        | then-disk-ge-PLACES-via-else-disk-ge-PLACES+else-row-eq0+else-row-gt-MOST_PPS+then-counts-disk-ne0 w ↦
+        | then-disk-ge-PLACES-via-else-disk-ge-PLACES+else-row-eq0+then-row-gt-MOST_PARTITIONS w ↦ omega (arith, here.partitions, w.if-row-gt-MOST_PARTITIONS.true)
+        | then-disk-ge-PLACES-via-else-disk-ge-PLACES+else-row-eq0+else-row-gt-MOST_PARTITIONS+then-counts-disk-ne0 w ↦
             w.if-counts-disk-ne0.true (ap (λ n. get_or c.loop-row.counts n 0) c.from-disk.ensures ∙ counts-nothing pvs i c.loop-row.counts no_row (omega arith) all c.loop-row.invariant.1)
       ]),
 )
