@@ -12,7 +12,8 @@ ghost use Rattle.lvm_map.specs.FirstFit.{has_partition_on, may_take, partitions_
 ghost use Rattle.lvm_map.specs.FreePartitions.{is_open, free_partitions, IsBounded, TakesFirstFree};
 
 use lvm_num::{
-    DISKS, Descriptor, DiskSet, MOST_PARTITIONS, Memory, Pp, PvRow, has_bit, has_partition_on, set_bit,
+    DISKS, Descriptor, DiskSet, MOST_PARTITIONS, Memory, Pp, PvRow, has_bit, has_partition_on,
+    set_bit,
 };
 use std::alloc::Global;
 use std::collections::VecDeque;

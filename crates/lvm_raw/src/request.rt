@@ -129,7 +129,13 @@ pub fn write_piece<S: Shelf>(
     let mut buf = buf;
     fill_front(&mut buf, word, count);
     copy_front(bytes, &buf, count);
-    let id = history.begin(SCRIPT_CLIENT, Vol::Disk(disk), from, count, Some(bytes.as_slice()));
+    let id = history.begin(
+        SCRIPT_CLIENT,
+        Vol::Disk(disk),
+        from,
+        count,
+        Some(bytes.as_slice()),
+    );
     let how = transfer(shelf, true, disk, from, count, buf, patience);
     end_write(history, id, &how);
     relight_after_transfer(shelf, &how);

@@ -161,7 +161,11 @@ fn begins_with(bytes: &[u8], kind: Kind, stamp: Stamp, content: &[u8]) -> bool
     ensures { IsTrue result ↔ (take (512 * record_sectors (length content.now)) bytes.now ≡ record_bytes kind (record { stamp = stamp; content = content.now })) }
 {
     for k in 0..slot_sectors(content.len()) {
-        if !stands_at(bytes, BLOCK_BYTES * k as usize, &frame(kind, stamp, content, k)) {
+        if !stands_at(
+            bytes,
+            BLOCK_BYTES * k as usize,
+            &frame(kind, stamp, content, k),
+        ) {
             return false;
         }
     }

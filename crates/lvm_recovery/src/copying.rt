@@ -66,7 +66,15 @@ fn step<S: Shelf>(
     requires range { MayTransfer (S.device shelf.old).sizes place }
     ensures gives { StepGives write place buf patience.old.left patience.new.left (S.device shelf.old) (S.device shelf.new) result }
 {
-    match transfer(shelf, write, place.disk, place.sector, BUFFER_SECTORS, buf, patience) {
+    match transfer(
+        shelf,
+        write,
+        place.disk,
+        place.sector,
+        BUFFER_SECTORS,
+        buf,
+        patience,
+    ) {
         Moved::Done(buf) => Begun::Ended { buf },
         Moved::Failed(buf) => Begun::DiskFailed {
             disk: place.disk,

@@ -8,7 +8,7 @@ ghost use Rattle.lvm_transfer.specs.Reading.{announced_length, only_buffer, IsIn
 
 use crate::moves::{Moved, Patience, transfer};
 use lvm_disk::Shelf;
-use lvm_disk::below::{BLOCK_BYTES, BUFFER_SECTORS, Pbuf};
+use lvm_num::{BLOCK_BYTES, BUFFER_SECTORS, Pbuf};
 use std::alloc::{AllocError, Global};
 
 // The bytes of a record's part in each sector, and those of its length before it.
