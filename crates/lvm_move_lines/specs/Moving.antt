@@ -37,6 +37,19 @@ abbrev pub move_reply : Result ℕ MoveFault → Reply
 move_reply (Ok moved) = reply.Migrated moved
 move_reply (Err why) = reply.Refused (move_refusal why)
 
+-- The replies behind which copies may have moved: all of them have, or one wasn't to move any more. By the others something stood against the plan.
+abbrev pub MayHaveMoved : Reply → Type 0
+MayHaveMoved (reply.Migrated moved) = Unit {0}
+MayHaveMoved (reply.Refused refusal.Dark) = Unit {0}
+MayHaveMoved (reply.Refused (refusal.WentOff have total)) = Unit {0}
+MayHaveMoved (reply.Refused refusal.Stuck) = Unit {0}
+MayHaveMoved (reply.Refused (refusal.Missing disk)) = Unit {0}
+MayHaveMoved (reply.Refused refusal.HistoryFull) = Unit {0}
+MayHaveMoved (reply.Refused (refusal.SyncFailed disk)) = Unit {0}
+MayHaveMoved (reply.Refused (refusal.NoFresh lp)) = Unit {0}
+MayHaveMoved (reply.Refused refusal.Memory) = Unit {0}
+MayHaveMoved other = ⊥
+
 -- In a group without volumes no copy is there to move: the second disk is missing, the numbers of stamps are short, or none has moved.
 abbrev pub empty_reply : Core → ℕ → Reply
 empty_reply core to = if calls_missing core.status.committed to then reply.Refused (refusal.Missing to) else if has_numbers core then reply.Migrated 0 else reply.Refused refusal.HistoryFull
