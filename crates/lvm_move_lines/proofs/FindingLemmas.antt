@@ -67,4 +67,4 @@ pub tried_or_same : (lv : Option ℕ) (from to : ℕ) (core : Core) (old new : S
 tried_or_same lv from to core old new answer its = ⊎_elim
     (λ may. inl (subst MayHaveMoved (sym its.says) may))
     (λ same. inr same)
-    (moved_or_same lv from to patience_of_line its.left (session_over old core) its.end its.result its.gives)
+    (moved_or_same lv from to patience_of_line its.left (session_over old core) its.end its.result its.session.gives)

@@ -93,7 +93,7 @@ module _ (run : ℕ) (old new : ScriptState) (between : IsBetween old.moment old
         end = its.end
 
         moves : MovesOn first_session end
-        moves = (going_moves_on first_session end was_sound its.way.leaves).1
+        moves = (going_moves_on first_session end was_sound its.session.way.leaves).1
 
         carried_nothing : (p : Power) → CarriesBy p end old.posts old.last new → NothingNew end.device new.moment.device
         carried_nothing power.On is = same_nothing end.device new.moment.device (ap (λ (s : ScriptState). s.moment.device) is)
@@ -128,9 +128,9 @@ module _ (run : ℕ) (old new : ScriptState) (between : IsBetween old.moment old
           Tried = MayHaveCommitted (Ok (Some (command.Migratepv volume from to))) answer old new id k
 
           -- one that was being committed is of the plan
-          planned_tried : MayHaveMoved answer → (id ≡ core.descriptor.id) × IsCommittedOn its.way.leaves k → Tried
+          planned_tried : MayHaveMoved answer → (id ≡ core.descriptor.id) × IsCommittedOn its.session.way.leaves k → Tried
           planned_tried moved committed =
-              let stage = stage_of core.descriptor (planned_moves core.descriptor lv from to) k (is_planned (planned_moves core.descriptor lv from to) first_session end its.way k committed.1) in
+              let stage = stage_of core.descriptor (planned_moves core.descriptor lv from to) k (is_planned (planned_moves core.descriptor lv from to) first_session end its.session.way k committed.1) in
               let some_moved : HasMovedSome core.descriptor lv from to k = record { first = stage.first; moved = stage.moved; rest = stage.rest; all = stage.all; is = stage.is } in
               record {
                 tried = moved;
@@ -142,7 +142,7 @@ module _ (run : ℕ) (old new : ScriptState) (between : IsBetween old.moment old
           moved_finds moved it = ⊎_elim
               (λ before. inl before)
               (λ committed. inr (planned_tried moved committed))
-              (moves_find_theirs may.first may.past first_session end its.way.leaves was_sound between.descriptors good_first begun
+              (moves_find_theirs may.first may.past first_session end its.session.way.leaves was_sound between.descriptors good_first begun
               ((stands_first may.past may.begins).spares volumes) id k (end_nothing id k it))
 
           pub migrated_finds : MayBeFound new.moment.device id k → MayBeFound old.moment.device id k ⊎ Tried
