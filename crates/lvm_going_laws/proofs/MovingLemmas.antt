@@ -79,7 +79,7 @@ stays_moves_on first last stays rows before = record {
 }
 
 -- what happens to a session that isn't on: nothing to the shelf, unless an order is given
-Idles : State → State → Type 0
+abbrev Idles : State → State → Type 0
 Idles old new = (new.device ≡ old.device) ⊎ ((old.core.power ≡ power.Stuck → ⊥) × (what : Arrange) × (done : Bool) × ArrangesSession old new what done)
 
 idle_step : (old new : State) → (old.core.power ≡ power.On → ⊥) → AnyStep old new → Idles old new
