@@ -17,7 +17,7 @@ WORDS = ["0000000000000000", "5555555555555555", "ffffffffffffffff", "0000000000
 class Script:
     def __init__(self, seed):
         self.draw = random.Random(seed)
-        self.disks = self.draw.choice([2, 3, 3, 3, 4])
+        self.disks = self.draw.choice([2, 3, 3, 4, 4, 5])
         self.mib = self.draw.choice([6, 7, 8])
         self.lines = []
         self.names = ["lv00", "lv01", "lv02"]
@@ -29,7 +29,7 @@ class Script:
 
     def name(self):
         there = [n for n in self.names if n in self.lps]
-        return self.draw.choice(there) if there and self.draw.random() < 0.95 else self.draw.choice(self.names)
+        return self.draw.choice(there) if there and self.draw.random() < 0.99 else self.draw.choice(self.names)
 
     def range(self, name):
         lps = self.lps.get(name, 1)
@@ -43,23 +43,31 @@ class Script:
     def make(self):
         mode = self.draw.choice(["", " -w a", " -w p", " -w n"])
         policy = self.draw.choice(["", "", " -d s", " -d ps", " -d pr"])
-        copies = self.draw.choice([1, 2, 2, 2, 3])
+        copies = self.draw.choice([1, 1, 2, 2, 2, 3])
         lps = self.draw.choice([1, 1, 2])
         name = self.draw.choice(self.names)
         self.lps.setdefault(name, lps)
         self.lines.append(f"mklv -y {name} -c {copies}{mode}{policy} datavg {lps}")
 
+    def post(self):
+        name = self.name()
+        self.lines.append(f"post {name} {self.range(name)} {self.next_word()}")
+
     def request(self):
         name = self.name()
-        if self.draw.random() < 0.7:
-            self.lines.append(f"post {name} {self.range(name)} {self.next_word()}")
+        if self.draw.random() < 0.5:
+            self.post()
         elif self.draw.random() < 0.6:
             self.lines.append(f"wr {name} {self.range(name)} {self.next_word()}")
         else:
             self.lines.append(f"rd {name} {self.range(name)}")
 
     def move(self):
+        for _ in range(self.draw.choice([0, 1, 1, 2, 3])):
+            self.post()
         one, other = self.disk(), self.disk()
+        if one == other and self.draw.random() < 0.9:
+            other = f"hdisk{(int(one[5:]) + 1) % self.disks}"
         volume = f" -l {self.name()}" if self.draw.random() < 0.4 else ""
         self.lines.append(f"migratepv{volume} {one} {other}")
         self.lines.append("wait")
@@ -76,7 +84,7 @@ class Script:
             self.lines.append(f"heal {self.disk()}")
         else:
             self.lines.append(f"cut {self.draw.choice(WORDS)}")
-            if self.draw.random() < 0.8:
+            if self.draw.random() < 0.95:
                 self.lines.append("varyonvg datavg")
 
     def group(self):
