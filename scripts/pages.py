@@ -6,7 +6,7 @@
     pages.py examples --write ..    writes what the program prints into the examples
     pages.py names [PAGE ..]        looks up each file and each name in backticks
     pages.py sentences [PAGE ..]    lists sentences of more than 30 words, and the median of each page
-    pages.py tables                 compares the tables that scripts make; --write makes them anew
+    pages.py tables                 compares the tables and the numbers that scripts make; --write makes them anew
 
 Without a page: README.md, CONTRIBUTING.md, CHANGELOG.md, docs/*.md and the README.md of each crate.
 
@@ -272,12 +272,15 @@ def room_table():
     return out
 
 
-def crate_table():
-    deps = {}
-    for line in read("crates.txt").split("\n"):
-        if ":" in line and not line.startswith("#"):
-            deps[line.split(":")[0].split()[0]] = line.split(":", 1)[1].split()
-    above = {it: set() for it in deps}
+def graph():
+    """What each crate of crates.txt names, in their order."""
+    return {name: below for name, below in ((line.split(":")[0].split()[0], line.split(":", 1)[1].split())
+                                            for line in read("crates.txt").split("\n") if ":" in line and not line.startswith("#"))}
+
+
+def above_each():
+    """The crates that stand on each crate, directly or not."""
+    deps, above = graph(), {}
 
     def below(name, seen):
         for dep in deps.get(name, []):
@@ -287,8 +290,14 @@ def crate_table():
         return seen
 
     for it in deps:
+        above.setdefault(it, set())
         for dep in below(it, set()):
-            above[dep].add(it)
+            above.setdefault(dep, set()).add(it)
+    return above
+
+
+def crate_table():
+    above = above_each()
     out = ["| Crate | What it has | Crates above |", "|---|---|---|"]
     for _, _, crates in rooms():
         for it in crates:
@@ -296,12 +305,83 @@ def crate_table():
     return out
 
 
+def change_table():
+    """How many crates are proved again when one changes, in steps of ten."""
+    rows = {}
+    for it, crates in above_each().items():
+        if crates and not it.startswith("lvm_tests"):
+            rows.setdefault(len(crates) // 10 * 10, []).append(it)
+    out = ["| Crates above | Crates |", "|---|---|"]
+    for least in sorted(rows, reverse=True):
+        out.append(f"| {least or 1} to {least + 9} | {' '.join(f'`{it}`' for it in rows[least])} |")
+    return out
+
+
+def law_table():
+    """The crates in which no function has a body."""
+    found = []
+    for it in graph():
+        texts = [read(f"crates/{it}/src/{path}") for path in sources(it)]
+        if not any(re.search(r"^\s*\{$|\bfn \w+[^;{]*\{$", text, re.M) for text in texts):
+            found.append(f"`{it}`")
+    return [", ".join(found) + "."]
+
+
+def sources(name):
+    base = f"{ROOT}/crates/{name}/src"
+    return [os.path.relpath(f"{at}/{file}", base) for at, _, files in os.walk(base) for file in sorted(files) if file.endswith(".rt")]
+
+
 def event_table():
     from events import table
     return table()
 
 
-MADE = {"rooms": room_table, "crates": crate_table, "events": event_table}
+MADE = {"rooms": room_table, "crates": crate_table, "changes": change_table, "laws": law_table, "events": event_table}
+
+
+# ---- numbers: what stands in the groups of each pattern, wherever the text does
+
+def edits_under(folder):
+    """The folders with edits below this one, and how many edits there are."""
+    found = {}
+    for at, _, files in os.walk(f"{ROOT}/{folder}"):
+        if "/out" not in at and any(it.endswith(".edit") for it in files):
+            found[at] = sum(it.endswith(".edit") for it in files)
+    return found
+
+
+def ways():
+    """How many ways lead down through crates.txt, from each crate to each below it or to itself."""
+    deps, known = graph(), {}
+
+    def from_here(name):
+        if name not in known:
+            known[name] = 1 + sum(from_here(dep) for dep in deps[name] if dep in deps)
+        return known[name]
+
+    return sum(from_here(it) for it in deps)
+
+
+NUMBER_WORDS = ["no", "one", "two", "three", "four", "five", "six", "seven", "eight", "nine", "ten"]
+
+
+def numbers_wanted():
+    must, tried, deps = edits_under("crates"), edits_under("scripts/wrong-bodies"), graph()
+    return [
+        (r"(\d+) edits stand under `must-fail/` of (\w+) crates", [sum(must.values()), NUMBER_WORDS[len(must)]]),
+        (r"(\d+) wrong bodies of (\d+) crates stand under", [sum(tried.values()), len(tried)]),
+        (r"With (\d+) crates and (\d+) names of them in these lines there are ([\d,]+) ways", [len(deps), sum(it in deps for below in deps.values() for it in below), f"{ways():,}"]),
+    ]
+
+
+def numbers(text):
+    """The text with the numbers that the tree has."""
+    for pattern, wanted in numbers_wanted():
+        for it in reversed(list(re.finditer(pattern, text))):
+            for group in range(len(wanted), 0, -1):
+                text = text[:it.start(group)] + str(wanted[group - 1]) + text[it.end(group):]
+    return text
 
 
 def edges_up():
@@ -320,6 +400,13 @@ def tables(pages, write):
     bad = edges_up()
     for page in pages:
         text = read(page)
+        told = numbers(text)
+        if told != text and write:
+            with open(f"{ROOT}/{page}", "w", encoding="utf-8") as file:
+                file.write(told)
+            text = told
+        elif told != text:
+            bad.append(f"{page}: a number isn't that of the tree: pages.py tables --write")
         for name, make in MADE.items():
             mark = re.compile(rf"(<!-- {name}, by scripts/pages.py -->\n).*?(\n<!-- end -->)", re.S)
             if not mark.search(text):
