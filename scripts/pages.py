@@ -221,6 +221,8 @@ def sentences(pages):
         counts = []
         for it in sentences_of(read(page)):
             count = len(it.split())
+            if set(it.split()) == {"CODE"}:
+                continue
             if count > 2:
                 counts.append(count)
             if count > MOST:
