@@ -28,6 +28,6 @@ returns c = record {
   is = refl;
   parts = subst (λ (x : Choice). IsReservedFor x.descriptor x.status c.args.room c.in_ok-parts.parts) c.in_ok-choice.ensures.is c.in_ok-parts.ensures;
   second = c.in_ok-second.ensures
-    ∙ ap (λ (goes : Bool). if goes then Some (status_bytes c.in_ok-choice.choice.status) else None) c.in_ok-choice.ensures.goes_is
-    ∙ ap (λ (x : Choice). if nat_lt (length x.status.dirty) (length c.args.choice.status.dirty) then Some (status_bytes x.status) else None) c.in_ok-choice.ensures.is;
+      ∙ ap (λ (goes : Bool). if goes then Some (status_bytes c.in_ok-choice.choice.status) else None) c.in_ok-choice.ensures.goes_is
+      ∙ ap (λ (x : Choice). if nat_lt (length x.status.dirty) (length c.args.choice.status.dirty) then Some (status_bytes x.status) else None) c.in_ok-choice.ensures.is;
 }
