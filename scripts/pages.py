@@ -4,6 +4,7 @@
     pages.py [PAGE ..]              all four checks below; a line for each thing that is wrong, status 1 if there is any
     pages.py examples [PAGE ..]     runs each example of the pages and compares what it prints
     pages.py examples --write ..    writes what the program prints into the examples
+    pages.py examples --try ..      runs those of `lvm sim` alone, by `rt try`: without a proof, in a few minutes
     pages.py names [PAGE ..]        looks up each file and each name in backticks
     pages.py sentences [PAGE ..]    lists sentences of more than 30 words, and the median of each page
     pages.py tables                 compares the tables and the numbers that scripts make; --write makes them anew
@@ -133,6 +134,51 @@ def examples(pages, write):
             with open(f"{ROOT}/{page}", "w", encoding="utf-8") as file:
                 file.write("\n".join(lines))
     print(f"examples: {count} run")
+    return bad
+
+
+def sim_runs(body):
+    """The runs of `lvm sim` of a block: the words, the script, and what stands under it; and how many other commands it has."""
+    runs, others, at = [], 0, 0
+    while at < len(body):
+        command, end = body[at][2:], at + 1
+        while end < len(body) and not body[end].startswith("$ "):
+            end += 1
+        rows, of_file = body[at + 1:end], re.fullmatch(r"lvm (sim \d+ \d+) < (examples/\S+)", command)
+        if of_file and os.path.exists(f"{ROOT}/{of_file[2]}"):
+            lines = read(of_file[2]).splitlines()
+            wide = max(len(it) for it in lines) + 3
+            runs.append((of_file[1].split(), lines, [it[wide:] for it in rows if it[wide:]]))
+        elif re.fullmatch(r"lvm sim \d+ \d+", command) and any(it.startswith(">") for it in rows):
+            runs.append((command.split()[1:], [it[2:] for it in rows if it.startswith(">")], [it for it in rows if not it.startswith(">")]))
+        else:
+            others += 1
+        at = end
+    return runs, others
+
+
+def try_examples(pages):
+    """Runs what the examples have of `lvm sim` by `rt try`, which checks the types and builds once, and proves nothing."""
+    count, others, bad = 0, 0, []
+    with tempfile.TemporaryDirectory() as folder:
+        for page in pages:
+            lines = read(page).split("\n")
+            for at, end in blocks(lines):
+                body = [it[4:] for it in lines[at:end]]
+                if body[0].startswith("$ "):
+                    runs, more = sim_runs(body)
+                    others += more
+                    for number, (words, script, wanted) in enumerate(runs):
+                        name = f"{folder}/{page.replace('/', '_').replace('.', '_')}_{at + 1}_{number}"
+                        for ending, text in (("", script), (".args", words), (".stdout", wanted)):
+                            with open(name + ending, "w", encoding="utf-8") as file:
+                                file.write("".join(it + "\n" for it in text))
+                        count += 1
+        ran = subprocess.run(["rt", "try", "--cases", folder], cwd=f"{ROOT}/crates/lvm", stdout=subprocess.PIPE, stderr=subprocess.STDOUT, text=True)
+        print(ran.stdout, end="")
+        if ran.returncode:
+            bad.append(f"examples: rt try ended with status {ran.returncode}")
+    print(f"examples: {count} run of `lvm sim`, {others} other commands not")
     return bad
 
 
@@ -425,8 +471,8 @@ def tables(pages, write):
 
 
 def main(words):
-    write = "--write" in words
-    words = [it for it in words if it != "--write"]
+    write, by_try = "--write" in words, "--try" in words
+    words = [it for it in words if it not in ("--write", "--try")]
     kind = words.pop(0) if words and words[0] in ("examples", "names", "sentences", "tables") else None
     if words and words[0].startswith("-"):
         print(__doc__)
@@ -436,7 +482,7 @@ def main(words):
     if kind in (None, "tables"):
         bad += tables(pages, write)
     if kind in (None, "examples"):
-        bad += examples(pages, write)
+        bad += try_examples(pages) if by_try else examples(pages, write)
     if kind in (None, "names"):
         bad += names(pages)
     if kind in (None, "sentences"):
