@@ -380,12 +380,22 @@ def sources(name):
     return [os.path.relpath(f"{at}/{file}", base) for at, _, files in os.walk(base) for file in sorted(files) if file.endswith(".rt")]
 
 
+def test_list(page):
+    """The tests of the page's crate by their names, which are sentences, file by file."""
+    name, out = page.split("/")[1], []
+    for path in sorted(sources(name)):
+        found = re.findall(r"#\[test\]\n(?:\s*#\[.*\]\n)*\s*(?:pub )?fn (\w+)", read(f"crates/{name}/src/{path}"))
+        if found:
+            out += ["", f"`src/{path}`:", ""] + [f"- {it.replace('_', ' ')}" for it in found]
+    return out[1:]
+
+
 def event_table():
     from events import table
     return table()
 
 
-MADE = {"rooms": room_table, "crates": crate_table, "changes": change_table, "laws": law_table, "events": event_table}
+MADE = {"rooms": room_table, "crates": crate_table, "changes": change_table, "laws": law_table, "events": event_table, "tests": test_list}
 
 
 # ---- numbers: what stands in the groups of each pattern, wherever the text does
@@ -459,7 +469,7 @@ def tables(pages, write):
             mark = re.compile(rf"(<!-- {name}, by scripts/pages.py -->\n).*?(\n<!-- end -->)", re.S)
             if not mark.search(text):
                 continue
-            wanted = mark.sub(lambda it: it.group(1) + "\n" + "\n".join(make()) + "\n" + it.group(2), text)
+            wanted = mark.sub(lambda it: it.group(1) + "\n" + "\n".join(make(page) if make is test_list else make()) + "\n" + it.group(2), text)
             if wanted != text:
                 if write:
                     with open(f"{ROOT}/{page}", "w", encoding="utf-8") as file:
