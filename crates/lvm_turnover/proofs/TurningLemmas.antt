@@ -77,7 +77,7 @@ module _ (c : Change) (old : State) (may : MayTurnSession c old) (settled_is : I
   none_of d x homes = record { requests = settled_is.quiet.requests; copy = settled_is.quiet.copy }
 
   fits_still : (last : Stored) (m : Device) → OnlyLoses u last old.device m → IsForgotten last → m.sizes ≡ old.device.sizes → Fits old was last old.core.cache m.sizes
-  fits_still last m loses forgotten same = fits_by old was u last old.core.cache old.device m may.change.valid (λ row inside. inside) refl (sym may.commit.settle.own) (may.commit.settle.id ∙ ap (λ (g : Descriptor). g.id) (sym may.commit.settle.own))
+  fits_still last m loses forgotten same = fits_by old was u last old.core.cache old.device m may.change.valid (λ row inside. record { was = row; inside = inside; same = refl }) refl (sym may.commit.settle.own) (may.commit.settle.id ∙ ap (λ (g : Descriptor). g.id) (sym may.commit.settle.own))
       (λ e. may.commit.settle.rows e ∙ ap (λ (g : Descriptor). is_member g e) (sym may.commit.settle.own)) (λ e member is. is) forgotten loses sound.fitting.entries sound.fitting.notes may.still m.sizes same
 
   fits_stopped : (m : Device) → m.sizes ≡ old.device.sizes → Fits old was u old.core.cache m.sizes
