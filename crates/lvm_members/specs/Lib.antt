@@ -1,2 +1,3 @@
 pub mod passed
 pub mod Commands
+pub mod Spares

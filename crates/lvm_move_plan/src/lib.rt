@@ -8,4 +8,4 @@ mod standing;
 
 pub use free::free_on;
 pub use plan::{PlanFault, PlannedMove, plan_moves};
-pub use standing::{VolumeCopy, standing_on};
+pub use standing::{VolumeCopy, standing_among, standing_on};
