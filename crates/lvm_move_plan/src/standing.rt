@@ -125,7 +125,8 @@ fn is_on(pp: Option<&Pp>, disks: &[u16]) -> bool
     }
 }
 
-fn is_listed(disks: &[u16], other: u16) -> bool
+/// Whether the disk is one of these.
+pub fn is_listed(disks: &[u16], other: u16) -> bool
     ensures { result ≡ listed disks.now other }
 {
     disks.iter().any(|disk| other == *disk)
