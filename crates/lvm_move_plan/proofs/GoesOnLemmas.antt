@@ -31,7 +31,7 @@ use Rattle.lvm_move_plan.proofs.RisingLemmas.{Rises, one_found, one_rising}
 
 -- ---- none of these stands on the disk
 
-apart_each : (pps : List Pp) (disk : ℕ) → has_partition_on pps disk ≡ false → (k : ℕ) (q : Pp) → slice_get pps k ≡ Some q → q.disk ≢ disk
+pub apart_each : (pps : List Pp) (disk : ℕ) → has_partition_on pps disk ≡ false → (k : ℕ) (q : Pp) → slice_get pps k ≡ Some q → q.disk ≢ disk
 apart_each pps disk none k q at same = clash (has_partition_on pps disk) (one_any (λ (pp : Pp). pp.disk == disk) pps q (one_at pps k q at) (eq-eqb q.disk disk same)) none
 
 none_on : (pps : List Pp) (disk : ℕ) → ((k : ℕ) (q : Pp) → slice_get pps k ≡ Some q → q.disk ≢ disk) → has_partition_on pps disk ≡ false
