@@ -3,3 +3,4 @@ pub mod HoldingLemmas
 pub mod PlanLemmas
 pub mod RulesLemmas
 pub mod SparesLemmas
+pub mod WorkedLemmas

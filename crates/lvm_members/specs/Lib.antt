@@ -1,3 +1,4 @@
 pub mod passed
 pub mod Commands
 pub mod Spares
+pub mod Worked

@@ -3,6 +3,7 @@
 
 mod choosing;
 mod fault;
+pub mod laws;
 mod rebuilding;
 
 pub use fault::RebuildFault;
