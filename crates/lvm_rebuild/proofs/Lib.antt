@@ -1,0 +1,3 @@
+pub mod ChoosingLemmas
+pub mod RebuildingLemmas
+pub mod WorkedLemmas
