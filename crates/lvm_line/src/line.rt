@@ -18,6 +18,7 @@ use lvm_volume_lines::below::group_lines::{
 };
 use lvm_volume_lines::below::range_lines::{do_post, do_rd, do_step, do_wait, do_wr};
 use lvm_volume_lines::below::stage::{Answered, Refusal, Reply, Stage};
+use lvm_member_lines::do_reducevg;
 use lvm_volume_lines::{
     do_chvg_big, do_chvg_quorum, do_mklv, do_mklvcopy, do_rmlv, do_rmlvcopy, do_splitlvcopy,
     do_sync_group, do_sync_volume, do_varyoff,
@@ -62,6 +63,7 @@ fn do_command<S: Shelf, C: Clock>(
         }
         Command::ChvgQuorum { on, name } => do_chvg_quorum(alloc, stage, on, name),
         Command::ChvgBig { name } => do_chvg_big(alloc, stage, name),
+        Command::Reducevg { name, disks } => do_reducevg(alloc, stage, name, disks.as_slice()),
         Command::Mklv {
             name,
             copies,

@@ -1,3 +1,4 @@
 pub mod ValidityLemmas
 pub mod NeighbourLemmas
 pub mod StepsLemmas
+pub mod LastLemmas

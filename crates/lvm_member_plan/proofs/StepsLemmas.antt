@@ -30,7 +30,7 @@ none_at t (x ∷ xs) none (suc k) e few = none_at t xs (second_fails (t x) (list
 abbrev Apart : ℕ → Pp → Type 0
 Apart x p = (p.disk == x) ≡ false
 
-unused_all : (x : ℕ) (rows : List LvRow) → list_any (λ (row : LvRow). list_any (λ (pp : Pp). pp.disk == x) row.map) rows ≡ false → All (Apart x) (partitions_in rows)
+pub unused_all : (x : ℕ) (rows : List LvRow) → list_any (λ (row : LvRow). list_any (λ (pp : Pp). pp.disk == x) row.map) rows ≡ false → All (Apart x) (partitions_in rows)
 unused_all x [] none = λ k e few. absurd (omega (arith, few))
 unused_all x (row ∷ rows) none = All-append (Apart x) row.map (partitions_in rows)
     (none_at (λ (pp : Pp). pp.disk == x) row.map (first_fails (list_any (λ (pp : Pp). pp.disk == x) row.map) (list_any (λ (r : LvRow). list_any (λ (pp : Pp). pp.disk == x) r.map) rows) none))

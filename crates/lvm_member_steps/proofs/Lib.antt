@@ -1,0 +1,4 @@
+pub mod ChainLemmas
+pub mod HoldingLemmas
+pub mod OffLemmas
+pub mod StepLemmas

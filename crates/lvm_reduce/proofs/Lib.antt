@@ -1,0 +1,3 @@
+pub mod ErasedLemmas
+pub mod ErasingLemmas
+pub mod RawLemmas
