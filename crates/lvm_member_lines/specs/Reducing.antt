@@ -1,5 +1,5 @@
 -- What the line does by which disks leave the group that is on.
-use Rattle.std.specs.Prelude.{◌≡◌, ◌≤◌, ℕ, Bool, false, [], List, Some, Result, Ok, Err, IfSome, Vec}
+use Rattle.std.specs.Prelude.{◌≡◌, ◌≤◌, ℕ, Bool, false, [], List, Some, Result, Ok, Err, IfSome, IsSome, Vec}
 use Rattle.std.specs.declared.alloc.Global.{Global}
 use Rattle.lvm_disk.specs.Device.{Device}
 use Rattle.lvm_session.specs.State.{Core, State}
@@ -55,9 +55,10 @@ ReducevgEnds disks given over patience mid old new = IsChangeDone (IsReducedBy d
 
 -- ---- the line
 
--- `reducevg`
+-- `reducevg`; for the disks that it names no memory may be found, where a group is on
 pub data ReducevgDoes (name disks : List ℕ) (old new : ScriptState) (answer : Reply) : Type 0 where
   NoGroupForReducevg : IsNotOn name old.session → IsRefused refusal.NoGroup answer old new → ReducevgDoes name disks old new answer
+  NoMemoryForReducevg : IsSome old.session → IsRefused refusal.Memory answer old new → ReducevgDoes name disks old new answer
   BusyReducevg : IfSome old.session (IsOn name) → 1 ≤ open_in old.session → IsRefused refusal.Busy answer old new → ReducevgDoes name disks old new answer
   UndrainedReducevg : (core : Core) (why : CommitFault) → old.session ≡ Some core → IsOn name core → IsUndrained core old new why answer → ReducevgDoes name disks old new answer
   ReducesGroup : (core : Core) (left : ℕ) (mid : State) → old.session ≡ Some core → IsOn name core → Drains core old left mid → ReducevgEnds disks (Ok tt) false left mid old new → answer ≡ reply.Ok

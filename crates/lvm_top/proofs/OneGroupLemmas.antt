@@ -45,7 +45,7 @@ use Rattle.lvm_top.proofs.StandingLemmas.Volumes.{done_finds, found_before, idle
 use Rattle.lvm_top.proofs.StandingLemmas.Copying.{fewer_id, more_id}
 use Rattle.lvm_top.proofs.StandingLemmas.Splitting.{split_id}
 use Rattle.lvm_member_plan.specs.Descriptors.{IsReducedBy}
-use Rattle.lvm_member_lines.specs.Reducing.{BusyReducevg, NoGroupForReducevg, ReducesGroup, ReducevgDoes, ReducevgFails, UndrainedReducevg}
+use Rattle.lvm_member_lines.specs.Reducing.{BusyReducevg, NoGroupForReducevg, NoMemoryForReducevg, ReducesGroup, ReducevgDoes, ReducevgFails, UndrainedReducevg}
 use Rattle.lvm_top.proofs.StandingLemmas.Reducing.{reduced_id}
 use Rattle.lvm_top.proofs.StandingLemmas.Changing.{change_finds}
 use Rattle.lvm_top.proofs.StandingLemmas.Moving.{found_first, migrated_finds, own_moved}
@@ -259,6 +259,7 @@ module _ (log : Log) (old new : ScriptState) (answer : Reply) (shelf : IsShelf o
 
     reducevg_one : (name disks : List ℕ) → ReducevgDoes name disks old new answer → FindsOneGroup now
     reducevg_one name disks (NoGroupForReducevg none is) = same_one is.1
+    reducevg_one name disks (NoMemoryForReducevg some is) = same_one is.1
     reducevg_one name disks (BusyReducevg mine busy is) = same_one is.1
     reducevg_one name disks (UndrainedReducevg core why some mine un) = nothing_one was now (undrained_nothing log.run old new between named stood core why answer some un) one
     reducevg_one name disks (ReducesGroup core left mid some mine drains done is) = changed_one (IsReducedBy disks mid.core.descriptor) core left mid some drains (reduced_id disks mid.core.descriptor) done

@@ -40,7 +40,7 @@ use Rattle.lvm_top.proofs.StandingLemmas.Volumes.{held_mid}
 use Rattle.lvm_top.proofs.StandingLemmas.Copying.{fewer_id, more_id}
 use Rattle.lvm_top.proofs.StandingLemmas.Splitting.{split_id}
 use Rattle.lvm_member_plan.specs.Descriptors.{IsReducedBy}
-use Rattle.lvm_member_lines.specs.Reducing.{BusyReducevg, NoGroupForReducevg, ReducesGroup, ReducevgFails, UndrainedReducevg}
+use Rattle.lvm_member_lines.specs.Reducing.{BusyReducevg, NoGroupForReducevg, NoMemoryForReducevg, ReducesGroup, ReducevgFails, UndrainedReducevg}
 use Rattle.lvm_top.proofs.StandingLemmas.Reducing.{reduced_id}
 use Rattle.lvm_top.proofs.StandingLemmas.Changing.{big_id}
 use Rattle.lvm_top.proofs.StandingLemmas.Moving.{empty_only, end_id, only_end, own_moved, session_on}
@@ -175,6 +175,7 @@ module _ (log : Log) (room : Room) (old new : ScriptState) (between : IsBetween 
   }
   by_command (command.ChvgBig name) acked stood (ChvgBigFails core left mid why some mine drains done says) = absurd (cc (says))
   by_command (command.Reducevg name disks) acked stood (NoGroupForReducevg none is) = absurd (let e = is.0 in cc (e))
+  by_command (command.Reducevg name disks) acked stood (NoMemoryForReducevg some is) = absurd (let e = is.0 in cc (e))
   by_command (command.Reducevg name disks) acked stood (BusyReducevg mine busy is) = absurd (let e = is.0 in cc (e))
   by_command (command.Reducevg name disks) acked stood (UndrainedReducevg core why some mine undrained) = absurd (let e = undrained.says in cc (e))
   by_command (command.Reducevg name disks) acked stood (ReducesGroup core left mid some mine drains done says) = record {

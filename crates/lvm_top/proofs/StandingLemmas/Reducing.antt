@@ -9,7 +9,7 @@ use Rattle.lvm_member_plan.specs.declared.fault.ReduceFault.{ReduceFault}
 use Rattle.lvm_member_plan.specs.declared.fault.ReduceFault.TheVariants as fault
 use Rattle.lvm_member_plan.specs.Descriptors.{IsReducedBy}
 use Rattle.lvm_reduce.specs.Answers.{ReduceGives, ends_session}
-use Rattle.lvm_member_lines.specs.Reducing.{BusyReducevg, NoGroupForReducevg, ReducesGroup, ReducevgDoes, ReducevgEnds, ReducevgFails, UndrainedReducevg, reduce_refusal}
+use Rattle.lvm_member_lines.specs.Reducing.{BusyReducevg, NoGroupForReducevg, NoMemoryForReducevg, ReducesGroup, ReducevgDoes, ReducevgEnds, ReducevgFails, UndrainedReducevg, reduce_refusal}
 use Rattle.lvm_line.specs.passed.GroupLines.{IsBetween, IsBrokenOff, OfGroup, ScriptState, Reply}
 use Rattle.lvm_line.specs.passed.ReplyVariants as reply
 use Rattle.lvm_line.specs.passed.VolumeLines.{Drains}
@@ -64,6 +64,7 @@ module _ (run : ℕ) (old new : ScriptState) (between : IsBetween old.moment old
 
   pub reducevg_finds : ReducevgDoes name disks old new answer → Found
   reducevg_finds (NoGroupForReducevg none is) id k it = inl (same_nothing old.moment.device new.moment.device (ap (λ (s : ScriptState). s.moment.device) is.1) id k it)
+  reducevg_finds (NoMemoryForReducevg some is) id k it = inl (same_nothing old.moment.device new.moment.device (ap (λ (s : ScriptState). s.moment.device) is.1) id k it)
   reducevg_finds (BusyReducevg mine busy is) id k it = inl (same_nothing old.moment.device new.moment.device (ap (λ (s : ScriptState). s.moment.device) is.1) id k it)
   reducevg_finds (UndrainedReducevg core why some mine un) id k it = inl (undrained_nothing run old new between named stood core why answer some un id k it)
   reducevg_finds (ReducesGroup core left mid some mine drains done says) = tried core left mid (Ok tt) false some drains (inl says) done
