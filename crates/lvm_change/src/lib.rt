@@ -7,4 +7,4 @@ mod turn;
 
 pub use parting::part_with;
 pub use rule::{FewVotes, as_big, few_votes_for, with_quorum};
-pub use turn::{Transition, TransitionEnd, next_stamp, make_transition, without};
+pub use turn::{Transition, TransitionEnd, make_transition, next_stamp, without};

@@ -8,11 +8,9 @@ ghost use Rattle.lvm_core.specs.Zeros.{IsZeroOf, IsZeroed, AreZeroed, HasSectors
 
 use lvm_commit::below::{Moved, Patience, transfer};
 use lvm_disk::Shelf;
-use lvm_num::{Pbuf, Pp};
+use lvm_num::{BUFFER_SECTORS, Pbuf, Pp};
 
-// The sectors of a transfer, and how many transfers a MiB has.
-const PIECE: u32 = 256;
-
+// How many transfers a MiB has.
 const PIECES: u32 = 8;
 
 /// Writes zeros to all of a partition, in pieces of 256 sectors, up to the first that doesn't go well.
@@ -60,8 +58,8 @@ fn write_piece<S: Shelf>(
     ensures zeros { IfMoved result (λ back. AreZeroed mib pp (256 * piece) (256 * piece + 256) (S.device shelf.new)) }
     ensures back { IfMoved result (λ back. back ≡ buf) }
 {
-    let first = start_of(mib, pp) + u64::from(PIECE * piece);
-    transfer(shelf, true, pp.disk, first, PIECE, buf, patience)
+    let first = start_of(mib, pp) + u64::from(BUFFER_SECTORS * piece);
+    transfer(shelf, true, pp.disk, first, BUFFER_SECTORS, buf, patience)
 }
 
 // The first sector of a partition.
@@ -76,7 +74,7 @@ fn clear(buf: &mut Pbuf)
     ensures number { buf.new.number ≡ buf.old.number }
     ensures clear { IsClear buf.new }
 {
-    for k in 0..PIECE {
+    for k in 0..BUFFER_SECTORS {
         buf.set_sector(k, &[0; 512]);
     }
 }

@@ -17,7 +17,9 @@ use crate::below::{Open, Session};
 use crate::held::is_held_back;
 use crate::judged::{is_kept, is_marked};
 use crate::pending::is_pending;
-use crate::standing::{are_targets, copies_for, group_in, group_of, is_usable, mode_of, destination_aim};
+use crate::standing::{
+    are_targets, copies_for, destination_aim, group_in, group_of, is_usable, mode_of,
+};
 use lvm_num::{Mode, Pp};
 use lvm_path::{Ask, Facts, Next, Phase, Request, Target};
 

@@ -52,9 +52,9 @@ pub use quiet::{is_quiet, is_quiet_for};
 pub use source::{copy_read, next_source};
 pub use span::Span;
 pub use standing::{
-    are_targets, copies_for, group_in, group_of, is_aim, is_beside_copy, is_caught, is_missing,
-    is_running, is_settled, is_stale, is_sure, is_usable, is_wanted_stale, is_whole, lp_of,
-    mode_of, destination_aim, destination_for, policy_of,
+    are_targets, copies_for, destination_aim, destination_for, group_in, group_of, is_aim,
+    is_beside_copy, is_caught, is_missing, is_running, is_settled, is_stale, is_sure, is_usable,
+    is_wanted_stale, is_whole, lp_of, mode_of, policy_of,
 };
 pub use starts::{copy_write, has_buffer, is_lost};
 pub use status::status_start;

@@ -10,7 +10,7 @@ ghost use Rattle.lvm_session.specs.Requests.{IsLaid};
 use crate::below::is_changed;
 use crate::facts_places::is_pp;
 use crate::standing::{
-    copies_for, group_of, is_missing, is_running, is_settled, is_usable, mode_of, destination_for,
+    copies_for, destination_for, group_of, is_missing, is_running, is_settled, is_usable, mode_of,
 };
 use lvm_num::{Mode, Pp};
 use lvm_path::{Phase, Request, Target, are_over};

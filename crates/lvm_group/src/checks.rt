@@ -7,21 +7,13 @@ ghost use Rattle.lvm_group.specs.NewGroup.{most_sectors, least_size, size_for, f
 
 use lvm_core::Cause;
 use lvm_disk::Shelf;
-
-// Where the data of a disk begins. The records stand below.
-const DATA: u64 = 4096;
-
-// The blocks of a MiB.
-const MIB: u64 = 2048;
+use lvm_num::{DATA_START, MIB_BLOCKS, MOST_PARTITIONS, PARTITION_SIZES};
 
 // The most partitions of a member.
-const MOST_PARTITIONS: u64 = 1016;
+const MOST: u64 = MOST_PARTITIONS as u64;
 
 // The most members of a group that isn't big.
 const MOST_MEMBERS: u32 = 32;
-
-// The sizes that a partition may have, in MiB.
-const SIZES: [u16; 11] = [1, 2, 4, 8, 16, 32, 64, 128, 256, 512, 1024];
 
 // The last of them.
 const LARGEST: u16 = 1024;
@@ -96,8 +88,8 @@ fn least_size(sectors: u64) -> u16
     ensures least { result ≡ least_size sectors }
     ensures size { IsTrue (is_size result) }
 {
-    for mib in &SIZES {
-        if room_for(sectors, *mib) <= MOST_PARTITIONS {
+    for mib in &PARTITION_SIZES {
+        if room_for(sectors, *mib) <= MOST {
             return *mib;
         }
     }
@@ -109,7 +101,7 @@ fn room_for(sectors: u64, mib: u16) -> u64
     requires { IsTrue (is_size mib) }
     ensures { result ≡ (sectors - data_start) / partition_blocks mib }
 {
-    sectors.saturating_sub(DATA) / (MIB * u64::from(mib))
+    sectors.saturating_sub(DATA_START) / (MIB_BLOCKS * u64::from(mib))
 }
 
 /// How many partitions a disk of so many sectors has as a member.
@@ -117,7 +109,7 @@ pub fn partitions_on(sectors: u64, mib: u16) -> u16
     requires { IsTrue (is_size mib) }
     ensures { result ≡ partition_count sectors mib }
 {
-    room_for(sectors, mib).min(MOST_PARTITIONS) as u16
+    room_for(sectors, mib).min(MOST) as u16
 }
 
 // The first disk on which no partition fits.

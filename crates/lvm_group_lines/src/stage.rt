@@ -9,16 +9,13 @@ use crate::holder::Holder;
 use crate::reply::{Refusal, Reply};
 use lvm_disk::Shelf;
 use lvm_history::History;
-use lvm_num::{Memory, Name};
+use lvm_num::{BUFFER_BYTES, Memory, Name};
 use lvm_quiesce::below::Closed;
 use lvm_session::Power;
 use lvm_tie_commands::below::driver::{self, Driver};
 use lvm_tie_commands::below::{Post, end_posts};
 use lvm_transfer::relight;
 use std::alloc::Global;
-
-// The bytes of the longest piece of a range.
-const PIECE: usize = 131_072;
 
 /// What stands between two lines: who holds the shelf and the history, and the writes that were posted.
 #[derive(Drop)]
@@ -43,7 +40,7 @@ pub fn take_rooms(alloc: Global, entries: u32) -> Result<(Vec<Post>, Vec<u8>), M
 {
     let (Ok(posts), Ok(bytes)) = (
         Vec::with_capacity(alloc, entries as usize / 3),
-        Vec::with_capacity(alloc, PIECE),
+        Vec::with_capacity(alloc, BUFFER_BYTES),
     ) else {
         return Err(Memory);
     };

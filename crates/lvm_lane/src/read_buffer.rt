@@ -2,14 +2,11 @@
 ghost use Rattle.std.specs.Prelude.{◌≡◌, ◌<◌, ◌≤◌, ◌*◌, length, replicate, [], IfOk, slice_index_or};
 ghost use Rattle.std.specs.Simd.{first_chunks};
 
-use lvm_num::Memory;
+use lvm_num::{BUFFER_BYTES, Memory};
 use std::alloc::Global;
 use std::io;
 use std::io::Read;
 use std::marker::Model;
-
-// The bytes of 256 sectors.
-const BYTES: usize = 131_072;
 
 /// Room for the 256 sectors that a transfer has at most. Contracts see its bytes.
 #[derive(Drop)]
@@ -39,7 +36,7 @@ impl ReadBuffer {
     pub fn new(alloc: Global) -> Result<ReadBuffer, Memory>
         ensures { IfOk result (λ room. room ≡ replicate 131072 0) }
     {
-        match vec![in alloc; 0; BYTES] {
+        match vec![in alloc; 0; BUFFER_BYTES] {
             Ok(bytes) => Ok(ReadBuffer { bytes }),
             Err(_) => Err(Memory),
         }

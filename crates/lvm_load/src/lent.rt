@@ -15,6 +15,7 @@ use crate::client::goes_on;
 use crate::request::submit_drawn;
 use lvm_disk::Shelf;
 use lvm_driver::Driver;
+use lvm_num::{MOST_COPIES, TRACK_GROUP};
 use lvm_session::{AskFault, CopyFault, CopyState, Taken, Turned};
 use lvm_vol::{Past, Shown};
 use lvm_workers::{Asked, Brings, Brought, Draw, Seen, Service};
@@ -23,11 +24,8 @@ use std::marker::{Brand, PhantomData};
 // Between the words of a client's requests.
 const STRIDE: u64 = 8;
 
-// The blocks of a track group.
-const GROUP: u32 = 256;
-
 // The most copies of a logical partition.
-const COPIES: u32 = 3;
+const COPIES: u32 = MOST_COPIES as u32;
 
 /// Names what a load begins with. Each load picks it.
 pub(crate) trait Lending {
@@ -56,9 +54,9 @@ fn apart_draw(blocks: u64, client: u32, drawn: &Draw) -> Draw
     requires client { (1 ≤ client) × (client ≤ 128) }
     ensures { result ≡ apart_draw blocks client drawn.now }
 {
-    let group = u64::from(client - 1) % (blocks / u64::from(GROUP));
+    let group = u64::from(client - 1) % (blocks / u64::from(TRACK_GROUP));
     Draw {
-        at: drawn.at % GROUP + GROUP * group as u32,
+        at: drawn.at % TRACK_GROUP + TRACK_GROUP * group as u32,
         count: drawn.count,
         kind: 1,
     }

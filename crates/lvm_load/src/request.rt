@@ -8,13 +8,14 @@ ghost use Rattle.lvm_load.specs.Requests.{ask_of, block_count, bytes_of, first_b
 
 use lvm_disk::Shelf;
 use lvm_driver::Driver;
+use lvm_num::TRACK_GROUP;
 use lvm_path::Ask;
 use lvm_posts::fill_bytes;
 use lvm_session::AskFault;
 use lvm_workers::Draw;
 
 // The blocks of a track group, in which a request lies.
-const GROUP: u64 = 256;
+const GROUP: u64 = TRACK_GROUP as u64;
 
 // The first block of a request to a volume of so many blocks, and how many it has.
 fn range_of(drawn: &Draw, blocks: u64) -> (u64, u32)

@@ -13,11 +13,8 @@ use crate::client::{Client, ask, turn};
 use crate::totals::{Totals, totals_since};
 use lvm_disk::Shelf;
 use lvm_driver::Driver;
-use lvm_workers::{generator, next_word};
+use lvm_workers::{PATIENCE, generator, next_word};
 use rand_pcg::Lcg64Xsh32;
-
-// As many turns may move nothing, one after the other.
-const PATIENCE: u32 = 1_000_000;
 
 /// How a workload ended.
 #[derive(Clone, Copy)]

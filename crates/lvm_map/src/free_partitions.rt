@@ -11,14 +11,15 @@ ghost use Rattle.lvm_num.specs.Marks.{spot};
 ghost use Rattle.lvm_map.specs.FirstFit.{has_partition_on, may_take, partitions_of};
 ghost use Rattle.lvm_map.specs.FreePartitions.{is_open, free_partitions, IsBounded, TakesFirstFree};
 
-use lvm_num::{Descriptor, DiskSet, Memory, Pp, PvRow, has_bit, has_partition_on, set_bit};
+use lvm_num::{
+    DISKS, Descriptor, DiskSet, MOST_PARTITIONS, Memory, Pp, PvRow, has_bit, has_partition_on,
+    set_bit,
+};
 use std::alloc::Global;
 use std::collections::VecDeque;
 use std::marker::Model;
 
-const MOST_PPS: usize = 1016;
-
-const MARKS: usize = 16256;
+const MARKS: usize = DISKS as usize * MOST_PARTITIONS as usize / 8;
 
 /// The free partitions of each member that may take copies, the members in the descriptor's order
 /// and the partitions by their numbers. Contracts see these lists.
@@ -140,5 +141,5 @@ fn mark_all(marks: &mut [u8; 16256], map: &[Pp])
 fn spot_of(pp: Pp) -> usize
     ensures { result ≡ spot pp }
 {
-    MOST_PPS * usize::from(pp.disk) + usize::from(pp.pp)
+    usize::from(MOST_PARTITIONS) * usize::from(pp.disk) + usize::from(pp.pp)
 }

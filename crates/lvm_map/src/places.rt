@@ -5,11 +5,7 @@ ghost use Rattle.lvm_num.specs.Descriptor.{IsLaidOut, IsValid};
 ghost use Rattle.lvm_map.specs.Places.{blocks_of, copy_at, place_on, place_of, IsBlockOfCopy};
 ghost use Rattle.lvm_num.specs.Geometry.{partition_blocks};
 
-use lvm_num::{Descriptor, LvRow, Place, Pp, volume_among};
-
-const DATA_START: u64 = 4096;
-
-const BLOCKS_PER_MIB: u64 = 2048;
+use lvm_num::{DATA_START, Descriptor, LvRow, MIB_BLOCKS, Place, Pp, volume_among};
 
 /// How many blocks of 512 bytes a volume has; None without a volume of that number.
 pub fn blocks(d: &Descriptor, lv: u16) -> Option<u64>
@@ -60,5 +56,5 @@ fn place_on(mib: u16, pp: Pp, block: u64) -> Place
 fn partition_blocks(mib: u16) -> u64
     ensures { result ≡ partition_blocks mib }
 {
-    BLOCKS_PER_MIB * u64::from(mib)
+    MIB_BLOCKS * u64::from(mib)
 }

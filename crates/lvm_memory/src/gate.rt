@@ -5,10 +5,7 @@ ghost use Rattle.std.proofs.Props.{props};
 
 use crate::memory::MemShelf;
 use lvm_disk::{Arrange, Reaped, Shelf, Started};
-use lvm_num::Pbuf;
-
-// The first sector of data.
-const DATA: u64 = 4096;
+use lvm_num::{DATA_START, Pbuf};
 
 // A transfer that is passed over by each reap, as long as it is so often told.
 const HELD: u32 = u32::MAX;
@@ -172,7 +169,7 @@ impl Shelf for GateShelf {
     {
         match self.inner.start_write(disk, first, count, buf) {
             Started::Ticket(ticket) => {
-                if first >= DATA {
+                if first >= DATA_START {
                     self.pass(ticket);
                 }
                 Started::Ticket(ticket)

@@ -95,7 +95,12 @@ fn copy_aims<S: Shelf>(session: &Session, shelf: &S, ask: &Ask) -> ArrayVec<Targ
 }
 
 // The destination of a move of its logical partition becomes a target, where the move has passed the track group.
-fn aim_destination<S: Shelf>(session: &Session, shelf: &S, ask: &Ask, targets: &mut ArrayVec<Target, 4>)
+fn aim_destination<S: Shelf>(
+    session: &Session,
+    shelf: &S,
+    ask: &Ask,
+    targets: &mut ArrayVec<Target, 4>,
+)
     requires may { MayChoose (S.device shelf.now) (core_of session.now) }
     requires room { length targets.old.items ≤ 3 }
     ensures targets { targets.new.items ≡ targets.old.items ++ map (destination_target (state (S.device shelf.now) (core_of session.now)) ask.now) (destination_aims (core_of session.now) ask.now) }

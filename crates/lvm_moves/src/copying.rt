@@ -19,10 +19,8 @@ use crate::launch::{add_flight, end_dark, take_free};
 use lvm_disk::{Shelf, Started};
 use lvm_due::below::partition_blocks;
 use lvm_due::next_source;
-use lvm_num::{Pbuf, Pp};
+use lvm_num::{Pbuf, Pp, TRACK_GROUP};
 use lvm_session::{OpenCopy, Owner, Session, Step, Turned};
-
-const GROUP: u32 = 256;
 
 // The sector at which the track group at the cursor begins on the copy at this partition.
 fn step_sector(session: &Session, copy: &OpenCopy, pp: Pp) -> u64
@@ -30,7 +28,7 @@ fn step_sector(session: &Session, copy: &OpenCopy, pp: Pp) -> u64
     ensures { result ≡ step_sector (core_of session.now) copy.now pp }
 {
     let blocks = partition_blocks(session.descriptor.mib);
-    let at = blocks * u64::from(copy.lp) + u64::from(GROUP) * u64::from(copy.cursor);
+    let at = blocks * u64::from(copy.lp) + u64::from(TRACK_GROUP) * u64::from(copy.cursor);
     4096 + blocks * u64::from(pp.pp) + at % blocks
 }
 
@@ -79,7 +77,7 @@ pub fn read_copy<S: Shelf>(session: &mut Session, shelf: &mut S) -> Turned
         unreachable!()
     };
     let buf = take_free(&mut session.pool);
-    match shelf.start_read(source.disk, first, GROUP, buf) {
+    match shelf.start_read(source.disk, first, TRACK_GROUP, buf) {
         Started::Dark(buf) => {
             end_dark(session, buf);
             Turned::Dark
@@ -130,7 +128,7 @@ pub fn write_copy<S: Shelf>(session: &mut Session, shelf: &mut S) -> Turned
     let Some(buf) = take_hand(&mut session.copy) else {
         unreachable!()
     };
-    match shelf.start_write(pp.disk, first, GROUP, buf) {
+    match shelf.start_write(pp.disk, first, TRACK_GROUP, buf) {
         Started::Dark(buf) => {
             end_dark(session, buf);
             Turned::Dark

@@ -19,12 +19,13 @@ pub fn take_free(pool: &mut Pool) -> Pbuf
     ensures long { length result.sectors ≡ 256 }
 {
     match pool.take() {
-        Some(buf) => cleared(buf),
+        Some(buf) => whole(buf),
         None => unreachable!(),
     }
 }
 
-fn cleared(buf: Pbuf) -> Pbuf
+// The buffer, of which it is said that it has 256 sectors.
+fn whole(buf: Pbuf) -> Pbuf
     ensures number { result.number ≡ buf.number }
     ensures long { length result.sectors ≡ 256 }
 {

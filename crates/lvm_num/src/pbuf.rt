@@ -62,6 +62,7 @@ impl Pbuf {
     pub fn set_sector(&mut self, k: u32, from: &[u8; 512])
         requires { k < 256 }
         ensures set { self.new ≡ record self.old { sectors = slice_set self.old.sectors k from.now } }
+        ensures length { length self.old.sectors ≡ 256 }
     {
         self.sectors[k as usize] = *from;
     }

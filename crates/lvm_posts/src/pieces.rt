@@ -4,11 +4,11 @@ ghost use Rattle.lvm_raw.specs.Pieces.{piece_count};
 ghost use Rattle.lvm_posts.specs.Pieces.{IsLaidOut, filled, piece_lp};
 
 use crate::asked::Asked;
-use lvm_num::fill;
+use lvm_num::{TRACK_GROUP, fill};
 use lvm_raw::append;
 
 // A piece ends at a multiple of so many blocks.
-const GROUP: u64 = 256;
+const GROUP: u64 = TRACK_GROUP as u64;
 
 /// How many pieces a range of a volume has.
 pub fn piece_count(at: u64, count: u32) -> u32

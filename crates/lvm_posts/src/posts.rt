@@ -15,10 +15,8 @@ use crate::asked::Asked;
 use crate::fault::{RangeFault, first_fault};
 use crate::pieces::piece_lp;
 use lvm_history::History;
+use lvm_num::SCRIPT_CLIENT;
 use lvm_vol::{Entry, Outcome};
-
-// The client whose requests these are.
-const CLIENT: u32 = 1;
 
 /// A write that was asked for and is answered later.
 #[derive(Clone, Copy, PartialEq, Eq)]
@@ -135,7 +133,7 @@ pub fn take_closed(
         is_ordered(history);
         let failed = piece_fault(history, asked, piece, have, total);
         fault = first_fault(fault, failed);
-        history.taken(CLIENT, asked.first + u64::from(piece));
+        history.taken(SCRIPT_CLIENT, asked.first + u64::from(piece));
     }
     match fault {
         None => Ok(()),

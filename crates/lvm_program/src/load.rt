@@ -22,7 +22,7 @@ use lvm_disk::Shelf;
 use lvm_history::History;
 use lvm_io::{Clock, Sink};
 use lvm_load::{Load, Served, Synced, Woven, serve_load};
-use lvm_num::{Descriptor, Name};
+use lvm_num::{Descriptor, MIB_BLOCKS, Name};
 use lvm_posts::Post;
 use lvm_ranges::SyncFault;
 use lvm_top::below::driver::Driver;
@@ -32,9 +32,6 @@ use lvm_top::{Ended, ExitStatus, close_ended, status_of, unbegun, write_reply};
 use std::alloc::{AllocError, Global};
 use std::sync::Wait;
 use std::thread::Threads;
-
-// The blocks of a MiB.
-const MIB: u64 = 2_048;
 
 // The bytes of the longest line: the command and a name.
 const LINE: usize = 24;
@@ -70,7 +67,7 @@ fn partition_blocks(mib: u16) -> u64
     ensures blocks { result ≡ partition_blocks mib }
     ensures most { result < 2 ^ 27 }
 {
-    MIB * u64::from(mib)
+    MIB_BLOCKS * u64::from(mib)
 }
 
 // The blocks of so many partitions of so many MiB.

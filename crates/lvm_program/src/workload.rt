@@ -18,6 +18,7 @@ use lvm_disk::Shelf;
 use lvm_history::History;
 use lvm_io::{Clock, Sink, write_all};
 use lvm_load::{Totals, Workload, Woven, totals_since, weave};
+use lvm_num::MIB_BLOCKS;
 use lvm_posts::Post;
 use lvm_top::below::driver::Driver;
 use lvm_top::below::line::do_line;
@@ -32,9 +33,6 @@ const MKVG: &[u8] = b"mkvg -y weavevg -s 1 hdisk0 hdisk1 hdisk2 hdisk3 hdisk4 hd
 const DISKS_AT: usize = 20;
 
 const DISK: usize = 7;
-
-// The blocks of a partition.
-const PARTITION: u64 = 2_048;
 
 // The line that makes the group, of so many disks.
 fn mkvg_line(disks: u16) -> &'static [u8]
@@ -68,7 +66,7 @@ fn woven_blocks(mib: u32) -> u64
     ensures is { result ≡ 2048 * (mib - 2) }
     ensures some { 1 ≤ result }
 {
-    PARTITION * u64::from(mib - 2)
+    MIB_BLOCKS * u64::from(mib - 2)
 }
 
 // What the lines that make the volume leave, and what the last of them was answered.

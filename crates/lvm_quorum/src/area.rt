@@ -12,12 +12,10 @@ ghost use Rattle.lvm_transfer.specs.Reading.{only_buffer, IsInRecords, ReadsEnd,
 ghost use Rattle.lvm_quorum.specs.Reading.{descriptor_shown, AreaRead, IsArea, IsAreaValid, IsLatestOn, IsValidLatest, SlotsRead};
 
 use crate::found::{descriptor_in, status_in};
-use lvm_num::{Descriptor, Memory, Pbuf, Status};
+use lvm_num::{BLOCK_BYTES, Descriptor, Memory, Pbuf, Status};
 use lvm_transfer::below::{Found, Latest, Shelf, newest};
 use lvm_transfer::{Extent, Patience, Stop, Unread, read_front, read_sectors};
 use std::alloc::Global;
-
-const SECTOR: usize = 512;
 
 const NOTE: u64 = 8;
 
@@ -205,7 +203,7 @@ fn read_note<S: Shelf>(
         keep: 1,
     };
     let (bytes, back) = read_sectors(alloc, shelf, extent, buf, patience)?;
-    let mut note = [0; SECTOR];
+    let mut note = [0; BLOCK_BYTES];
     note.copy_from_slice(&bytes);
     Ok((note, back))
 }

@@ -9,11 +9,8 @@ ghost use Rattle.lvm_quorum.specs.Surveying.{AreHomes, DiskGives, IfSurveyed, Is
 use crate::area::{RecordArea, read_area};
 use crate::below::{Patience, Shelf, Stop, Unread, read_note};
 use crate::row::{Survey, SurveyRow};
-use lvm_num::{Pbuf, Rows, Stamp};
+use lvm_num::{DATA_START, Pbuf, Rows, Stamp};
 use std::alloc::Global;
-
-// Where the data of a disk begins. The records stand below.
-const DATA: u64 = 4096;
 
 const NO_STAMP: Stamp = Stamp { epoch: 0, seq: 0 };
 
@@ -117,7 +114,7 @@ fn survey_disk<S: Shelf>(
     ensures gives { DiskGives disk buf.number patience.old.left (S.device shelf.old) (S.device shelf.new) result }
 {
     let sectors = shelf.sectors(disk);
-    if sectors < DATA {
+    if sectors < DATA_START {
         return Ok((empty_row(disk, sectors, false), buf));
     }
     match read_area(alloc, shelf, disk, buf, patience) {

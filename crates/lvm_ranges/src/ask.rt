@@ -14,15 +14,12 @@ use crate::refusal::AskRangeFault;
 use lvm_disk::Shelf;
 use lvm_driver::Driver;
 use lvm_driver::below::partition_blocks;
-use lvm_num::volume_of;
+use lvm_num::{BLOCK_BYTES, SCRIPT_CLIENT, volume_of};
 use lvm_path::Ask;
 use lvm_posts::below::piece_end;
 use lvm_posts::{Asked, fill_bytes, piece_count};
 
-// The client whose requests these are.
-const CLIENT: u32 = 1;
-
-const BLOCK: u64 = 512;
+const BLOCK: u64 = BLOCK_BYTES as u64;
 
 // The entries of a request: that it has begun, has landed, and was taken.
 const ENTRIES: u64 = 3;
@@ -89,7 +86,7 @@ fn submit<S: Shelf>(driver: &mut Driver<S>, ask: Ask, bytes: Option<&[u8]>) -> u
     ensures is { driver.new.1 ≡ submitted driver.old.1 1 ask (option_copied bytes.entry) }
     ensures runs { RunsOn (state_of S.device driver.old) (state_of S.device driver.new) }
 {
-    match driver.submit(CLIENT, ask, bytes) {
+    match driver.submit(SCRIPT_CLIENT, ask, bytes) {
         Ok(id) => id,
         Err(_) => unreachable!(),
     }

@@ -15,11 +15,8 @@ use crate::fault::SyncFault;
 use crate::tally::Tally;
 use lvm_disk::Shelf;
 use lvm_due::copies_in;
-use lvm_num::{Pp, volume_of};
+use lvm_num::{MOST_COPIES, Pp, volume_of};
 use lvm_transfer::Patience;
-
-// The most copies of a logical partition.
-const COPIES: u8 = 3;
 
 // The partition of a copy, by its place from 0.
 fn pp_at<S: Shelf>(driver: &Driver<S>, lv: u16, lp: u32, place: u8) -> Option<Pp>
@@ -76,7 +73,7 @@ pub fn pass_partition<S: Shelf>(
     ensures ends { PassesAll (partition_copies driver.old.1.descriptor lv lp) patience.old.left patience.new.left (state_of S.device driver.old) (state_of S.device driver.new) tally.old tally.new result }
     ensures beside { GoesBeside (state_of S.device driver.old) (state_of S.device driver.new) patience.old.left patience.new.left }
 {
-    for place in 0..COPIES {
+    for place in 0..MOST_COPIES {
         pass_place(driver, lv, lp, place, tally, patience)?;
     }
     Ok(())

@@ -14,12 +14,10 @@ ghost use Rattle.lvm_ranges.specs.Taking.{fault_taken};
 use crate::landing::await_range;
 use lvm_disk::Shelf;
 use lvm_driver::Driver;
+use lvm_num::SCRIPT_CLIENT;
 use lvm_posts::{Asked, RangeFault, first_fault, piece_lp};
 use lvm_session::Taken;
 use lvm_transfer::Patience;
-
-// The client whose requests these are.
-const CLIENT: u32 = 1;
 
 // How a piece in this logical partition has failed that was answered so, where the votes are so many of so many.
 fn fault_taken(taken: Taken, lp: u32, have: u32, total: u32) -> Option<RangeFault>
@@ -53,7 +51,7 @@ pub fn take_range<S: Shelf>(driver: &mut Driver<S>, asked: &Asked) -> Result<(),
     let mut fault = None;
     for piece in 0..asked.pieces {
         driver.is_sound();
-        let taken = driver.take(CLIENT, asked.first + u64::from(piece));
+        let taken = driver.take(SCRIPT_CLIENT, asked.first + u64::from(piece));
         let failed = fault_taken(taken, piece_lp(asked, piece), have, total);
         fault = first_fault(fault, failed);
     }

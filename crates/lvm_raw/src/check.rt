@@ -6,14 +6,12 @@ ghost use Rattle.lvm_raw.specs.Pieces.{piece_count, piece_end};
 use crate::fault::RawFault;
 use lvm_disk::Shelf;
 use lvm_history::History;
-
-// The first sector of a disk's data.
-const DATA: u64 = 4096;
+use lvm_num::{BLOCK_BYTES, DATA_START, TRACK_GROUP};
 
 // A piece ends at a multiple of so many blocks.
-const GROUP: u64 = 256;
+const GROUP: u64 = TRACK_GROUP as u64;
 
-const BLOCK: u64 = 512;
+const BLOCK: u64 = BLOCK_BYTES as u64;
 
 // The entries of a request: that it has begun, has landed, and was taken.
 const ENTRIES: u64 = 3;
@@ -36,7 +34,7 @@ pub fn check<S: Shelf>(
     }
     let blocks = shelf.sectors(disk);
     let wanted = u64::from(count);
-    if at < DATA || at > blocks || wanted > blocks - at {
+    if at < DATA_START || at > blocks || wanted > blocks - at {
         return Err(RawFault::OutOfRange { blocks });
     }
     let entries = ENTRIES * piece_count(at, wanted);

@@ -15,12 +15,9 @@ use crate::look::look;
 use crate::pieces::{read_pieces, write_pieces};
 use lvm_disk::Shelf;
 use lvm_history::History;
-use lvm_num::{Pbuf, Rows};
+use lvm_num::{BUFFER_BYTES, Pbuf, Rows};
 use lvm_transfer::Patience;
 use std::alloc::Global;
-
-// The bytes of a whole buffer.
-const BUFFER: usize = 131_072;
 
 /// Writes `count` blocks of a disk from block `at` on, block `at + i` filled with `word + i`, wrapping. Blocks are
 /// sectors. The disk's descriptor slots are read first. Then the range is written in pieces that end at multiples of
@@ -45,7 +42,7 @@ pub fn write_disk<S: Shelf>(
     ensures rooms { history.new ≡ record history.old { facts = history.new.facts } }
 {
     let buf = ask(alloc, shelf, history, disk, at, count, patience)?;
-    let Ok(bytes) = Vec::with_capacity(alloc, BUFFER) else {
+    let Ok(bytes) = Vec::with_capacity(alloc, BUFFER_BYTES) else {
         return Err(RawFault::Memory);
     };
     write_pieces(shelf, history, disk, at, count, word, bytes, buf, patience)
@@ -75,7 +72,7 @@ pub fn read_disk<S: Shelf>(
 {
     let buf = ask(alloc, shelf, history, disk, at, count, patience)?;
     let (Ok(bytes), Ok(blocks)) = (
-        Vec::with_capacity(alloc, BUFFER),
+        Vec::with_capacity(alloc, BUFFER_BYTES),
         Vec::with_capacity(alloc, count as usize),
     ) else {
         return Err(RawFault::Memory);

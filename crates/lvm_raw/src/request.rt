@@ -17,12 +17,9 @@ ghost use Rattle.lvm_raw.specs.Requests.{landing_ends, cut_ends, write_ends, rea
 use crate::blocks::{copy_front, fill_front};
 use lvm_disk::Shelf;
 use lvm_history::History;
-use lvm_num::Pbuf;
+use lvm_num::{Pbuf, SCRIPT_CLIENT};
 use lvm_transfer::{Moved, Patience, relight, transfer};
 use lvm_vol::{Outcome, Vol};
-
-// The client whose requests these are.
-const CLIENT: u32 = 1;
 
 // Enters how a request landed, and that its answer was taken.
 fn land_and_take(history: &mut History, id: u64, outcome: Outcome, started: bool)
@@ -32,7 +29,7 @@ fn land_and_take(history: &mut History, id: u64, outcome: Outcome, started: bool
         history.new ≡ record history.old { facts = landing_ends history.old.facts r (Landed r outcome started (got_without_bytes r outcome)) } }
 {
     history.land(id, outcome, started);
-    history.taken(CLIENT, id);
+    history.taken(SCRIPT_CLIENT, id);
 }
 
 // Enters that the power was cut while a request was open, and that it landed so.
@@ -56,7 +53,7 @@ fn got_and_take(history: &mut History, id: u64, bytes: &[u8])
         history.new ≡ record history.old { facts = landing_ends history.old.facts r (Landed r Outcome.Got true (first_chunks 512 r.count bytes.now)) } }
 {
     history.land_read(id, bytes);
-    history.taken(CLIENT, id);
+    history.taken(SCRIPT_CLIENT, id);
 }
 
 // Enters how a write ended whose transfer ended so.
@@ -132,7 +129,13 @@ pub fn write_piece<S: Shelf>(
     let mut buf = buf;
     fill_front(&mut buf, word, count);
     copy_front(bytes, &buf, count);
-    let id = history.begin(CLIENT, Vol::Disk(disk), from, count, Some(bytes.as_slice()));
+    let id = history.begin(
+        SCRIPT_CLIENT,
+        Vol::Disk(disk),
+        from,
+        count,
+        Some(bytes.as_slice()),
+    );
     let how = transfer(shelf, true, disk, from, count, buf, patience);
     end_write(history, id, &how);
     relight_after_transfer(shelf, &how);
@@ -158,7 +161,7 @@ pub fn read_piece<S: Shelf>(
     ensures takes { TakesRoom count history.old history.new result }
     ensures room { 131072 ≤ vec_capacity bytes.new }
 {
-    let id = history.begin(CLIENT, Vol::Disk(disk), from, count, None);
+    let id = history.begin(SCRIPT_CLIENT, Vol::Disk(disk), from, count, None);
     let how = transfer(shelf, false, disk, from, count, buf, patience);
     end_read(history, id, count, &how, bytes);
     relight_after_transfer(shelf, &how);

@@ -8,10 +8,8 @@ ghost use Rattle.lvm_rec.specs.Frames.{MayFrame};
 
 use crate::numbers::{u32_at, u64_at};
 use byteorder::{BigEndian, ByteOrder};
-use lvm_num::{Framed, Kind, Memory, Rows, Stamp};
+use lvm_num::{BLOCK_BYTES, Framed, Kind, Memory, Rows, Stamp};
 use std::alloc::{AllocError, Global};
-
-const SECTOR: usize = 512;
 
 const HEAD: usize = 16;
 
@@ -33,7 +31,7 @@ pub fn frame(kind: Kind, stamp: Stamp, content: &[u8], index: u32) -> [u8; 512]
     requires within { index < record_sectors (length content.now) }
     ensures { result ≡ frame kind stamp content.now index }
 {
-    let mut sector = [0; SECTOR];
+    let mut sector = [0; BLOCK_BYTES];
     sector[..HEAD].copy_from_slice(&head(kind, stamp, index));
     sector[HEAD..].copy_from_slice(&part(content, index));
     sector
@@ -118,7 +116,7 @@ fn announced(kind: Kind, bytes: &[u8]) -> Option<(Stamp, usize)>
     ensures may { IfSome result (λ first. MayFrame kind bytes.now first.0 first.1) }
     ensures none { IfNone result ((r : Framed) → IsRecord kind bytes.now r → ⊥) }
 {
-    if bytes.len() < SECTOR {
+    if bytes.len() < BLOCK_BYTES {
         return None;
     }
     let epoch = u64_at(bytes, 8);
@@ -127,7 +125,7 @@ fn announced(kind: Kind, bytes: &[u8]) -> Option<(Stamp, usize)>
     if epoch == 0 || seq == 0 || len > longest(kind) {
         return None;
     }
-    if bytes.len() < SECTOR * slot_sectors(len) as usize {
+    if bytes.len() < BLOCK_BYTES * slot_sectors(len) as usize {
         return None;
     }
     Some((Stamp { epoch, seq }, len))
@@ -148,9 +146,9 @@ fn gather(alloc: Global, bytes: &[u8], len: usize) -> Result<Vec<u8>, AllocError
     requires there { 512 * record_sectors len ≤ length bytes.now }
     ensures { IfOk result (λ content. content.items ≡ take len (drop 4 (payload_of bytes.now (record_sectors len)))) }
 {
-    let mut content = Vec::from_slice(alloc, &bytes[HEAD + LENGTH..SECTOR])?;
+    let mut content = Vec::from_slice(alloc, &bytes[HEAD + LENGTH..BLOCK_BYTES])?;
     for k in 1..slot_sectors(len) as usize {
-        content.extend_from_slice(&bytes[SECTOR * k + HEAD..SECTOR * k + SECTOR])?;
+        content.extend_from_slice(&bytes[BLOCK_BYTES * k + HEAD..BLOCK_BYTES * k + BLOCK_BYTES])?;
     }
     content.truncate(len);
     Ok(content)
@@ -163,7 +161,11 @@ fn begins_with(bytes: &[u8], kind: Kind, stamp: Stamp, content: &[u8]) -> bool
     ensures { IsTrue result ↔ (take (512 * record_sectors (length content.now)) bytes.now ≡ record_bytes kind (record { stamp = stamp; content = content.now })) }
 {
     for k in 0..slot_sectors(content.len()) {
-        if !stands_at(bytes, SECTOR * k as usize, &frame(kind, stamp, content, k)) {
+        if !stands_at(
+            bytes,
+            BLOCK_BYTES * k as usize,
+            &frame(kind, stamp, content, k),
+        ) {
             return false;
         }
     }
@@ -174,5 +176,5 @@ fn stands_at(bytes: &[u8], at: usize, sector: &[u8; 512]) -> bool
     requires { at + 512 ≤ length bytes.now }
     ensures { IsTrue result ↔ (take 512 (drop at bytes.now) ≡ sector.now) }
 {
-    bytes[at..at + SECTOR] == sector[..]
+    bytes[at..at + BLOCK_BYTES] == sector[..]
 }

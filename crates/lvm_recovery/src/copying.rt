@@ -4,12 +4,9 @@ ghost use Rattle.lvm_disk.specs.Device.{IsReady};
 ghost use Rattle.lvm_recovery.specs.Copying.{IsFull, StepGives, CopyGives, AllGive, MayTransfer, MayCopy, AreApart};
 
 use lvm_disk::Shelf;
-use lvm_num::{Pbuf, Place};
+use lvm_num::{BUFFER_SECTORS, Pbuf, Place};
 use lvm_transfer::{Moved, Patience, transfer};
 use lvm_write::Begun;
-
-// The sectors of a track group, which are those of a buffer.
-const RUN: u32 = 256;
 
 /// 256 sectors that are to be copied, and where to.
 #[derive(Clone, Copy)]
@@ -69,7 +66,15 @@ fn step<S: Shelf>(
     requires range { MayTransfer (S.device shelf.old).sizes place }
     ensures gives { StepGives write place buf patience.old.left patience.new.left (S.device shelf.old) (S.device shelf.new) result }
 {
-    match transfer(shelf, write, place.disk, place.sector, RUN, buf, patience) {
+    match transfer(
+        shelf,
+        write,
+        place.disk,
+        place.sector,
+        BUFFER_SECTORS,
+        buf,
+        patience,
+    ) {
         Moved::Done(buf) => Begun::Ended { buf },
         Moved::Failed(buf) => Begun::DiskFailed {
             disk: place.disk,

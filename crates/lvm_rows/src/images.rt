@@ -2,11 +2,11 @@
 
 use crate::fault::Fault;
 use crate::parse;
-use lvm_num::Rows;
+use lvm_num::{BLOCK_BYTES, Rows};
 use std::alloc::Global;
 
 // The bytes of a sector.
-const SECTOR: u64 = 512;
+const SECTOR: u64 = BLOCK_BYTES as u64;
 
 /// Sectors of a disk: the first, and how many.
 #[derive(Clone, Copy)]

@@ -10,13 +10,10 @@ ghost use Rattle.lvm_session_start.specs.Parts.{IsEmptyCache, IsOneGroup, IsRese
 use lvm_hold::Queue;
 use lvm_keeps::below::{Flown, Open, Pool};
 use lvm_mwc::Cache;
-use lvm_num::{Descriptor, DiskSet, Memory, Status};
+use lvm_num::{BUFFER_BYTES, Descriptor, DiskSet, Memory, Status};
 use lvm_status::Updater;
 use lvm_status::below::StaleTable;
 use std::alloc::Global;
-
-// The bytes of 256 blocks, which are more than those of any status.
-const BLOCK_BYTES: usize = 131_072;
 
 /// How much a session has room for.
 #[derive(Clone, Copy)]
@@ -142,7 +139,7 @@ fn of_requests(alloc: Global, room: SessionRoom) -> Result<Tables, Memory>
 fn room_of_blocks(alloc: Global) -> Result<Vec<u8>, Memory>
     ensures { IfOk result (λ bytes. length bytes.items ≡ 131072) }
 {
-    match vec![in alloc; 0; BLOCK_BYTES] {
+    match vec![in alloc; 0; BUFFER_BYTES] {
         Ok(bytes) => Ok(bytes),
         Err(_) => Err(Memory),
     }

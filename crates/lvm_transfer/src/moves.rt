@@ -8,8 +8,8 @@ ghost use Rattle.lvm_disk.specs.Paths.{DeviceStep, Path};
 ghost use Rattle.lvm_kept.specs.Raw.{OnlyAdds};
 ghost use Rattle.lvm_transfer.specs.Transfer.{Costs, FinishGives, StepsWhile, TransferGives, Rests, Relights, flight_of};
 
-use lvm_disk::below::Pbuf;
 use lvm_disk::{Reaped, Shelf, Started};
+use lvm_num::Pbuf;
 
 /// How a transfer ended.
 #[derive(Drop)]

@@ -8,13 +8,8 @@ ghost use Rattle.lvm_transfer.specs.Reading.{announced_length, only_buffer, IsIn
 
 use crate::moves::{Moved, Patience, transfer};
 use lvm_disk::Shelf;
-use lvm_disk::below::Pbuf;
+use lvm_num::{BLOCK_BYTES, BUFFER_SECTORS, Pbuf};
 use std::alloc::{AllocError, Global};
-
-const SECTOR: usize = 512;
-
-// As many sectors as one transfer may have.
-const PIECE: u32 = 256;
 
 // The bytes of a record's part in each sector, and those of its length before it.
 const PART: usize = 496;
@@ -68,7 +63,7 @@ pub fn read_sectors<S: Shelf>(
     ensures size { IfOk result (λ got. length got.0.items ≡ 512 * extent.keep) }
     ensures bytes { IfOk result (λ got. IfSome (S.device shelf.old).media (λ media. got.0.items ≡ joined (media extent.disk) extent.first extent.keep)) }
 {
-    let Ok(mut bytes) = Vec::with_capacity(alloc, SECTOR * extent.keep as usize) else {
+    let Ok(mut bytes) = Vec::with_capacity(alloc, BLOCK_BYTES * extent.keep as usize) else {
         return Err(Unread::Stopped(Stop::Memory(buf)));
     };
     let back = append_sectors(shelf, extent, &mut bytes, buf, patience)?;
@@ -94,7 +89,7 @@ fn append_sectors<S: Shelf>(
     let mut back = buf;
     let mut done = 0;
     while done < extent.count {
-        let count = PIECE.min(extent.count - done);
+        let count = BUFFER_SECTORS.min(extent.count - done);
         let piece = Extent {
             disk: extent.disk,
             first: extent.first + u64::from(done),
@@ -191,8 +186,8 @@ pub fn read_front<S: Shelf>(
     let front = Extent {
         disk,
         first,
-        count: PIECE,
-        keep: PIECE,
+        count: BUFFER_SECTORS,
+        keep: BUFFER_SECTORS,
     };
     let (mut bytes, buf) = read_sectors(alloc, shelf, front, buf, patience)?;
     let rest = rest_of(disk, first, &bytes);
@@ -209,9 +204,9 @@ fn rest_of(disk: u16, first: u64, front: &[u8]) -> Extent
     let record = announced_sectors(front);
     Extent {
         disk,
-        first: first + u64::from(PIECE),
-        count: DESCRIPTOR_SECTORS - PIECE,
-        keep: record.clamp(PIECE, DESCRIPTOR_SECTORS) - PIECE,
+        first: first + u64::from(BUFFER_SECTORS),
+        count: DESCRIPTOR_SECTORS - BUFFER_SECTORS,
+        keep: record.clamp(BUFFER_SECTORS, DESCRIPTOR_SECTORS) - BUFFER_SECTORS,
     }
 }
 

@@ -20,7 +20,7 @@ ghost use Rattle.lvm_mwc.specs.Cache.{flight_on};
 ghost use Rattle.lvm_turnover.specs.Turning.{IsPrepared, IsTurnBy, MaySend, MayTurnSession, IsSent, IsSettledBy, BeginsWith, TurnsSession, core_after};
 
 use crate::change::{Change, Leaving};
-use lvm_change::{Transition, TransitionEnd, next_stamp, part_with, make_transition, without};
+use lvm_change::{Transition, TransitionEnd, make_transition, next_stamp, part_with, without};
 use lvm_commit::{CommitEnd, commit_status};
 use lvm_core::CommitFault;
 use lvm_core::below::{Patience, Power};

@@ -13,9 +13,7 @@ use lvm_fields::{
     Fault, Unread, bytes_at, name_in, u8_up_to, u16_at, u16_from_1, u16_up_to, u64_nonzero,
     zeros_at,
 };
-use lvm_num::{LvRow, Name};
-
-const SIZES: [u16; 11] = [1, 2, 4, 8, 16, 32, 64, 128, 256, 512, 1024];
+use lvm_num::{LvRow, Name, PARTITION_SIZES};
 
 /// Whether the group is big, and its id.
 #[tactic(auto, unfolding(crate::specs::Parts::begin_at))]
@@ -80,7 +78,7 @@ fn size_at(unread: Unread) -> Result<(u16, Unread), Fault>
 fn is_size(mib: u16) -> bool
     ensures { result ≡ is_size mib }
 {
-    SIZES.contains(&mib)
+    PARTITION_SIZES.contains(&mib)
 }
 
 // The number of members. Where votes are even and it isn't 2, the flag before it is the fault.

@@ -4,11 +4,9 @@ ghost use Rattle.lvm_num.specs.Bits.{has_bit};
 ghost use Rattle.lvm_num.specs.DescriptorBytes.{is_at};
 ghost use Rattle.lvm_vgda.specs.Used.{has};
 
-use lvm_num::{Pp, has_bit, set_bit};
+use lvm_num::{DISKS, MOST_PARTITIONS, Pp, has_bit, set_bit};
 
-const MARKS: usize = 16256;
-
-const PPS: usize = 1016;
+const MARKS: usize = DISKS as usize * MOST_PARTITIONS as usize / 8;
 
 /// A set of partitions of the disks 0 to 127 with 1,016 partitions each.
 #[derive(Drop)]
@@ -51,5 +49,5 @@ fn no_marks() -> [u8; 16256]
 fn spot(pp: Pp) -> usize
     ensures { result ≡ 1016 * pp.disk + pp.pp }
 {
-    PPS * usize::from(pp.disk) + usize::from(pp.pp)
+    usize::from(MOST_PARTITIONS) * usize::from(pp.disk) + usize::from(pp.pp)
 }

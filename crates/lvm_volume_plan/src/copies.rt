@@ -13,12 +13,9 @@ use crate::new_volume::{has_room, takes_commands};
 use crate::with_copies::{copies_at, first_copies, further_copies, with_copies};
 use lvm_disk::Shelf;
 use lvm_map::{MapFault, allocate_more};
-use lvm_num::{LvRow, Memory, Pp, Rows, volume_among};
+use lvm_num::{LvRow, MOST_COPIES, Memory, Pp, Rows, volume_among};
 use lvm_status::{StaleTable, members_there};
 use std::alloc::Global;
-
-// The most copies of a volume.
-const COPIES: u8 = 3;
 
 /// The partitions that a volume gets with more copies, and the descriptor with them. All memory is taken with them.
 #[derive(Drop)]
@@ -82,7 +79,7 @@ fn check_more<S: Shelf>(driver: &CommandDriver<S>, lv: u16, copies: u8) -> Resul
     let Some(row) = volume_among(driver.descriptor().lvs.as_slice(), lv) else {
         return Err(GroupFault::NoVolume);
     };
-    if copies <= row.copies || copies > COPIES {
+    if copies <= row.copies || copies > MOST_COPIES {
         return Err(GroupFault::CopyLimit { now: row.copies });
     }
     Ok(())

@@ -13,7 +13,7 @@ use lvm_core::below::Power;
 use lvm_core::{CommandDriver, Prepared};
 use lvm_disk::Shelf;
 use lvm_map::{MapFault, allocate, blocks};
-use lvm_num::{Descriptor, LvRow, Memory, Mode, Name, Policy, Pp, Rows};
+use lvm_num::{Descriptor, LvRow, MIB_BLOCKS, Memory, Mode, Name, Policy, Pp, Rows};
 use lvm_status::members_there;
 use std::alloc::Global;
 
@@ -22,9 +22,6 @@ const ENTRIES: u32 = 2;
 
 // The fewest sequence numbers with which one is begun.
 const NUMBERS: u32 = 65_536;
-
-// The blocks of a MiB.
-const MIB: u64 = 2048;
 
 /// What is asked of a new volume.
 #[derive(Clone, Copy)]
@@ -241,7 +238,7 @@ fn partition_blocks(mib: u16) -> u64
     ensures blocks { result ≡ partition_blocks mib }
     ensures most { result < 2 ^ 27 }
 {
-    MIB * u64::from(mib)
+    MIB_BLOCKS * u64::from(mib)
 }
 
 // The descriptor without a volume.

@@ -11,8 +11,8 @@ use crate::words::Draw;
 use lvm_turn::{Pass, Turn};
 use std::sync::Wait;
 
-// As often may nothing be heard for one request.
-const PATIENCE: u32 = 1_000_000;
+/// So often in a row may nothing be heard of what is awaited.
+pub const PATIENCE: u32 = 1_000_000;
 
 /// A request that has begun, under this number, and how often nothing was heard when it was looked for. Only asking makes one,
 /// and only looking counts.

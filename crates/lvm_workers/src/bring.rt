@@ -11,6 +11,7 @@ ghost use Rattle.lvm_workers.specs.Working.{own_of};
 ghost use Rattle.lvm_workers.specs.declared.bring.Brought.{Brought as Said};
 ghost use Rattle.lvm_workers.specs.declared.bring.Brought.TheVariants as brought;
 
+use crate::asking::PATIENCE;
 use crate::crew::{Crew, workers};
 use crate::service::Service;
 use crate::work::Tally;
@@ -19,9 +20,6 @@ use std::alloc::Global;
 use std::sync::Wait;
 use std::thread;
 use std::thread::Threads;
-
-// As often may nothing be heard of the copies.
-const PATIENCE: u32 = 1_000_000;
 
 /// What became of the copy of a place.
 #[derive(Clone, Copy)]

@@ -9,6 +9,7 @@ mod service;
 mod words;
 mod work;
 
+pub use asking::PATIENCE;
 pub use bring::{Brings, Brought, run_crew, seats};
 pub use crew::Crew;
 pub use service::{Asked, Seen, Service};

@@ -9,10 +9,8 @@ ghost use Rattle.lvm_write.specs.Parts.{write_to, PartsStand, IfMoved, WritesPar
 ghost use Rattle.lvm_write.specs.Writes.{DiskWritesLeave, RecordWritesEnd};
 
 use lvm_disk::Shelf;
-use lvm_num::{DiskSet, Kind, Pbuf, Stamp};
+use lvm_num::{BUFFER_SECTORS, DiskSet, Kind, Pbuf, Stamp};
 use lvm_quorum::below::{Homes, Moved, Patience, frame, slot_sectors, transfer};
-
-const PIECE: u32 = 256;
 
 /// How a write of a record to several disks ended.
 #[derive(Drop)]
@@ -101,7 +99,7 @@ fn write_slot<S: Shelf>(
     let mut buf = buf;
     let mut first = 0;
     while first < sectors {
-        let count = (sectors - first).min(PIECE);
+        let count = (sectors - first).min(BUFFER_SECTORS);
         match write_piece(shelf, one, first, count, buf, patience) {
             Moved::Done(back) => buf = back,
             ended => return ended,

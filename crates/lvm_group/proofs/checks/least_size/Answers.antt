@@ -9,10 +9,10 @@ use Rattle.lvm_group.proofs.checks.least_size.Goals as goal
 is_within : (n m : ℕ) → n ≤ m → nat_le n m ≡ true
 is_within n m le = grind (arith, nat_tests)
 
-pub returns-then-room_for-le-MOST_PARTITIONS-clause-least : goal.returns-then-room_for-le-MOST_PARTITIONS-clause-least
-returns-then-room_for-le-MOST_PARTITIONS-clause-least c =
+pub returns-then-room_for-le-MOST-clause-least : goal.returns-then-room_for-le-MOST-clause-least
+returns-then-room_for-le-MOST-clause-least c =
     let i = c.loop-mib.mib-index in
-    let fits : (c.args.sectors - data_start) / partition_blocks (get_or sizes_in_order i 0) ≤ 1016 = subst (λ n. n ≤ 1016) c.room_for.ensures c.if-room_for-le-MOST_PARTITIONS.true in
+    let fits : (c.args.sectors - data_start) / partition_blocks (get_or sizes_in_order i 0) ≤ 1016 = subst (λ n. n ≤ 1016) c.room_for.ensures c.if-room_for-le-MOST.true in
     sym (ap (λ o. unwrap_or o 1024) (found_at (λ mib. nat_le ((c.args.sectors - data_start) / partition_blocks mib) 1016) sizes_in_order i c.loop-mib.invariant c.loop-mib-test.true (is_within _ 1016 fits)))
 
 pub returns-clause-least : goal.returns-clause-least

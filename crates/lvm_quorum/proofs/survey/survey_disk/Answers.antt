@@ -6,11 +6,11 @@ use Rattle.lvm_quorum.proofs.passed.Transfer.{or_got, told-always, told-more, on
 use Rattle.lvm_quorum.proofs.SurveyedLemmas.DiskRows.{empty_is_read, small_has_none, area_is_read, large_has, not_small}
 use Rattle.lvm_quorum.proofs.survey.survey_disk.Goals as goal
 
-pub returns-then-sectors-lt-DATA-clause-only : goal.returns-then-sectors-lt-DATA-clause-only
-returns-then-sectors-lt-DATA-clause-only g c = only_none c.args.patience.now.left (g.S.Shelf.device c.args.shelf.now)
+pub returns-then-sectors-lt-DATA_START-clause-only : goal.returns-then-sectors-lt-DATA_START-clause-only
+returns-then-sectors-lt-DATA_START-clause-only g c = only_none c.args.patience.now.left (g.S.Shelf.device c.args.shelf.now)
 
-pub returns-then-sectors-lt-DATA-clause-gives : goal.returns-then-sectors-lt-DATA-clause-gives
-returns-then-sectors-lt-DATA-clause-gives g c =
+pub returns-then-sectors-lt-DATA_START-clause-gives : goal.returns-then-sectors-lt-DATA_START-clause-gives
+returns-then-sectors-lt-DATA_START-clause-gives g c =
     let old = (g.S.Shelf.device c.args.shelf.now) in
     let row = c.empty_row.result in (
       rested_none old c.requires.ready,
@@ -21,7 +21,7 @@ returns-then-sectors-lt-DATA-clause-gives g c =
         homes = c.empty_row.ensures.homes;
         failed = λ is. absurd (let e = c.empty_row.ensures.is.2 in cc);
         answered = λ is. refl;
-        read = λ is. told-always (λ (m : Media). IsRead (image_of old.sizes m) c.args.disk row) old.media (λ m. empty_is_read (image_of old.sizes m) c.args.disk row (small_has_none old.sizes m c.args.disk c.sectors-sectors.result c.sectors-sectors.ensures c.if-sectors-lt-DATA.true) c.empty_row.ensures.empty);
+        read = λ is. told-always (λ (m : Media). IsRead (image_of old.sizes m) c.args.disk row) old.media (λ m. empty_is_read (image_of old.sizes m) c.args.disk row (small_has_none old.sizes m c.args.disk c.sectors-sectors.result c.sectors-sectors.ensures c.if-sectors-lt-DATA_START.true) c.empty_row.ensures.empty);
         whole = λ is large. absurd (large (let same : slice_index_or old.sizes c.args.disk 0 ≡ c.sectors-sectors.result = or_got old.sizes c.args.disk 0 c.sectors-sectors.result c.sectors-sectors.ensures in omega arith));
         empty = λ is. c.empty_row.ensures.empty;
       },
@@ -33,7 +33,7 @@ read_area-requires-clause-large g c =
     let same : slice_index_or (g.S.Shelf.device c.args.shelf.now).sizes c.args.disk 0 ≡ c.sectors-sectors.result = or_got (g.S.Shelf.device c.args.shelf.now).sizes c.args.disk 0 c.sectors-sectors.result c.sectors-sectors.ensures in omega arith
 
 pub returns-in-Ok-clause-elsewhere : goal.returns-in-Ok-clause-elsewhere
-returns-in-Ok-clause-elsewhere g c d small = c.in-Ok.ensures.reads.elsewhere d (not_small (g.S.Shelf.device c.args.shelf.now) c.args.disk c.sectors-sectors.result d c.sectors-sectors.ensures c.if-sectors-lt-DATA.false small)
+returns-in-Ok-clause-elsewhere g c d small = c.in-Ok.ensures.reads.elsewhere d (not_small (g.S.Shelf.device c.args.shelf.now) c.args.disk c.sectors-sectors.result d c.sectors-sectors.ensures c.if-sectors-lt-DATA_START.false small)
 
 pub returns-in-Ok-clause-gives : goal.returns-in-Ok-clause-gives
 returns-in-Ok-clause-gives g c =
@@ -52,7 +52,7 @@ returns-in-Ok-clause-gives g c =
         failed = λ is. absurd (let e = says.is.2 in cc);
         answered = λ is. read.0.misses;
         read = λ is. told-more (λ (m : Media). IsArea (m disk) c.in-Ok.area) (λ (m : Media). IsRead (image_of old.sizes m) disk row) old.media
-            (λ m is. area_is_read (image_of old.sizes m) disk c.in-Ok.area row (large_has old.sizes m disk c.sectors-sectors.result sectors c.requires.there c.if-sectors-lt-DATA.false) is says.found)
+            (λ m is. area_is_read (image_of old.sizes m) disk c.in-Ok.area row (large_has old.sizes m disk c.sectors-sectors.result sectors c.requires.there c.if-sectors-lt-DATA_START.false) is says.found)
             c.in-Ok.ensures.area;
         whole = λ is large. record { begun = old; done = g.S.Shelf.device c.read_area.new.shelf; before = Here tt; reads = c.in-Ok.ensures.whole; after = Here tt };
         empty = λ is. absurd (let e = says.is.2 in cc);
@@ -61,10 +61,10 @@ returns-in-Ok-clause-gives g c =
     )
 
 pub returns-in-Err-Failed-clause-elsewhere : goal.returns-in-Err-Failed-clause-elsewhere
-returns-in-Err-Failed-clause-elsewhere g c d small = c.in-Err-Failed.ensures.reads.elsewhere d (not_small (g.S.Shelf.device c.args.shelf.now) c.args.disk c.sectors-sectors.result d c.sectors-sectors.ensures c.if-sectors-lt-DATA.false small)
+returns-in-Err-Failed-clause-elsewhere g c d small = c.in-Err-Failed.ensures.reads.elsewhere d (not_small (g.S.Shelf.device c.args.shelf.now) c.args.disk c.sectors-sectors.result d c.sectors-sectors.ensures c.if-sectors-lt-DATA_START.false small)
 
 pub returns-in-Err-Stopped-clause-elsewhere : goal.returns-in-Err-Stopped-clause-elsewhere
-returns-in-Err-Stopped-clause-elsewhere g c d small = c.in-Err-Stopped.ensures.reads.elsewhere d (not_small (g.S.Shelf.device c.args.shelf.now) c.args.disk c.sectors-sectors.result d c.sectors-sectors.ensures c.if-sectors-lt-DATA.false small)
+returns-in-Err-Stopped-clause-elsewhere g c d small = c.in-Err-Stopped.ensures.reads.elsewhere d (not_small (g.S.Shelf.device c.args.shelf.now) c.args.disk c.sectors-sectors.result d c.sectors-sectors.ensures c.if-sectors-lt-DATA_START.false small)
 
 pub returns-in-Err-Stopped-clause-gives : goal.returns-in-Err-Stopped-clause-gives
 returns-in-Err-Stopped-clause-gives g c =

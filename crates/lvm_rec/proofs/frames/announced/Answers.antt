@@ -5,8 +5,8 @@ use Rattle.lvm_rec.proofs.RecordLemmas.Slot.{slot_is_long}
 use Rattle.lvm_rec.proofs.frames.announced.Goals as goal
 use Rattle.lvm_rec.proofs.frames.announced.Goals.{then-epoch-eq0-via-then-epoch-eq0, then-epoch-eq0-via-else-epoch-eq0+then-seq-eq0, then-epoch-eq0-via-else-epoch-eq0+else-seq-eq0+then-len-longest}
 
-pub returns-then-bytes-lt-SECTOR-clause-none : goal.returns-then-bytes-lt-SECTOR-clause-none
-returns-then-bytes-lt-SECTOR-clause-none c = λ r is.
+pub returns-then-bytes-lt-BLOCK_BYTES-clause-none : goal.returns-then-bytes-lt-BLOCK_BYTES-clause-none
+returns-then-bytes-lt-BLOCK_BYTES-clause-none c = λ r is.
     let long = slot_is_long c.args.kind c.args.bytes.now r is in
     absurd (omega (arith, long, enough (length r.content)))
 

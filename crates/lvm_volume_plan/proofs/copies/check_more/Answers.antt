@@ -10,6 +10,6 @@ returns-clause-may g c = (
       takes = c.in_ok-takes_commands.ensures.takes;
       volume = found_is c.args.driver.now.1.descriptor c.descriptor.result.now c.args.lv c.as_slice.result.now c.in-Some.row.now c.in-Some.ensures c.as_slice.ensures c.descriptor.ensures.same;
     };
-    are = record { more = omega (arith, c.if-copies-row.false); most = omega (arith, c.if-copies-gt-COPIES.false) };
+    are = record { more = omega (arith, c.if-copies-row.false); most = omega (arith, c.if-copies-gt-MOST_COPIES.false) };
   },
 )
