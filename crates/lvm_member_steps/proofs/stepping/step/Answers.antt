@@ -6,8 +6,9 @@ use Rattle.lvm_session.specs.State.{State, state, is_there}
 use Rattle.lvm_turnover.specs.Changing.{IsNext}
 use Rattle.lvm_turnover.specs.Turning.{disks_leaving}
 use Rattle.lvm_member_steps.proofs.OffLemmas.{off_leaves}
-use Rattle.lvm_member_steps.proofs.StepLemmas.{at_once, may_step, step_ends, there_by}
-use Rattle.lvm_member_steps.proofs.step.step.Goals as goal
+use Rattle.lvm_member_plan.proofs.VotesLemmas.{there_by}
+use Rattle.lvm_member_steps.proofs.StepLemmas.{at_once, may_step, step_ends}
+use Rattle.lvm_member_steps.proofs.stepping.step.Goals as goal
 
 pub few_votes-requires : goal.few_votes-requires
 few_votes-requires g c = c.requires.step.valid_next
