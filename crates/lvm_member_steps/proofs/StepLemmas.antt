@@ -94,6 +94,11 @@ module _ (leaving : Option Leaving) (next : Descriptor) (p q : ℕ) (old new : S
       fewer_by true true n is = absurd (false≢true is)
       fewer_by false g n is = absurd (false≢true is)
 
+  went_off : (have total : ℕ) (disks : List ℕ) → IsReducedBy disks old.core.descriptor next → EndsFrom next p old over new (Err (fault.WentOff have total)) → BreaksOff disks p old new (fault.WentOff have total)
+  went_off have total disks its (inl it) = record { mid = old; left = p; come = come_here (is_there old.core) disks p old ready; breaks = inl (record { by = old.core.descriptor; has = old.core.descriptor; by_is = inl refl; has_is = inl refl; off = it }) }
+  went_off have total disks its (inr (inl it)) = record { mid = old; left = p; come = come_here (is_there old.core) disks p old ready; breaks = inl (record { by = next; has = old.core.descriptor; by_is = inr its; has_is = inl refl; off = it.0 }) }
+  went_off have total disks its (inr (inr it)) = record { mid = over; left = p; come = come_over disks; breaks = inl (record { by = next; has = next; by_is = inr its; has_is = inr its; off = it }) }
+
   pub step_ends : (answer : Result (Unit {0}) CommitFault) → MarksLeft next old.core.status new.core.status → LeavesWithin 3 (IsNext next) [] (disks_leaving leaving) p q old new → IsSoundAtRest new
       → EndsFrom next p old over new answer → StepEnds leaving next p old new answer
   step_ends (Ok done) left leaves sound ends = record {
@@ -106,21 +111,16 @@ module _ (leaving : Option Leaving) (next : Descriptor) (p q : ℕ) (old new : S
     still = step_still next leaving p q old new step left leaves ends;
     fresh = step_fresh next leaving p q old new step left leaves ends;
   }
-  step_ends (Err fault.Dark) left leaves sound ends disks its = ⊎_elim
+  step_ends (Err fault.Dark) left leaves sound ends = λ disks its. ⊎_elim
       (λ dark. record { mid = old; left = p; come = come_here (is_there old.core) disks p old ready; breaks = dark })
       (λ dark. record { mid = with_descriptor next over; left = p; come = come_next disks its; breaks = dark })
       ends
-  step_ends (Err fault.Stuck) left leaves sound ends disks its = ⊎_elim
+  step_ends (Err fault.Stuck) left leaves sound ends = λ disks its. ⊎_elim
       (λ out. record { mid = old; left = p; come = come_here (is_there old.core) disks p old ready; breaks = out })
       (λ out. record { mid = with_descriptor next over; left = p; come = come_next disks its; breaks = out })
       ends
-  step_ends (Err (fault.WentOff have total)) left leaves sound ends disks its = by ends
-    where
-      by : EndsFrom next p old over new (Err (fault.WentOff have total)) → BreaksOff disks p old new (fault.WentOff have total)
-      by (inl it) = record { mid = old; left = p; come = come_here (is_there old.core) disks p old ready; breaks = inl (record { by = old.core.descriptor; has = old.core.descriptor; by_is = inl refl; has_is = inl refl; off = it }) }
-      by (inr (inl it)) = record { mid = old; left = p; come = come_here (is_there old.core) disks p old ready; breaks = inl (record { by = next; has = old.core.descriptor; by_is = inr its; has_is = inl refl; off = it.0 }) }
-      by (inr (inr it)) = record { mid = over; left = p; come = come_over disks; breaks = inl (record { by = next; has = next; by_is = inr its; has_is = inr its; off = it }) }
-  step_ends (Err (fault.DiskFailed disk)) left leaves sound ends disks its = absurd ends
+  step_ends (Err (fault.WentOff have total)) left leaves sound ends = λ disks its. went_off have total disks its ends
+  step_ends (Err (fault.DiskFailed disk)) left leaves sound ends = λ disks its. absurd ends
 
   -- nothing was written
   pub at_once : (have total : ℕ) → WentOffAtOnce next have total old new → StepEnds leaving next p old new (Err (fault.WentOff have total))

@@ -35,9 +35,15 @@ IsOfRecords _ = Unit {0}
 
 -- ---- where it is done
 
+-- these are some of the others, each once, in their order
+abbrev pub IsPartOf : List ℕ → List ℕ → Type 0
+IsPartOf some [] = some ≡ []
+IsPartOf some (x ∷ all) = IsPartOf some all ⊎ ((rest : List ℕ) × (some ≡ x ∷ rest) × IsPartOf rest all)
+
 -- Entered are disks that left and were there, and each of them shows no descriptor, or a transfer of it failed; of the others that were there each had a transfer that failed.
 pub record HasEntered (disks entered : List ℕ) (old new : State) : Type 0 where
   pub history : new.core.history ≡ with_removed entered old.core.history
+  pub part : IsPartOf entered disks
   pub among : (x : ℕ) → IsTrue (is_in entered x) → IsTrue (is_in disks x) × IsTrue (is_there old.core x)
   pub erased : (x : ℕ) → IsTrue (is_in entered x) → IsErasedOrFailed x old.device new.device
   pub others : (x : ℕ) → IsTrue (is_in disks x) → IsTrue (is_there old.core x) → IsFalse (is_in entered x) → Rose (old.device.counts.faults x) (new.device.counts.faults x)
