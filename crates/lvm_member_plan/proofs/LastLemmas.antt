@@ -16,27 +16,27 @@ use Rattle.lvm_member_plan.proofs.ValidityLemmas.{without_valid}
 use Rattle.lvm_member_plan.proofs.StepsLemmas.{unused_all}
 
 -- where no disk passes, each of them fails
-none_passes : (t : ℕ → Bool) (xs : List ℕ) → find t xs ≡ None → (x : ℕ) → is_in xs x ≡ true → t x ≡ false
+pub none_passes : (t : ℕ → Bool) (xs : List ℕ) → find t xs ≡ None → (x : ℕ) → is_in xs x ≡ true → t x ≡ false
 none_passes t [] none x on = absurd (false≢true on)
-none_passes t (y ∷ ys) none x on = by (t y) (x == y) refl refl
+none_passes t (y ∷ ys) none x on = by (t y) (x == y) refl refl (none_passes t ys)
   where
-    by : (passes same : Bool) → t y ≡ passes → (x == y) ≡ same → t x ≡ false
-    by true same p s = absurd (ends (sym (ap (λ (b : Bool). if b then Some y else find t ys) p) ∙ none))
+    by : (passes same : Bool) → t y ≡ passes → (x == y) ≡ same → (find t ys ≡ None → (d : ℕ) → is_in ys d ≡ true → t d ≡ false) → t x ≡ false
+    by true same p s rest = absurd (ends (sym (ap (λ (b : Bool). if b then Some y else find t ys) p) ∙ none))
       where
         ends : Some y ≡ None → ⊥
         ends is = cc is
-    by false true p s = ap t (eqb-true x y s) ∙ p
-    by false false p s = none_passes t ys (sym (ap (λ (b : Bool). if b then Some y else find t ys) p) ∙ none) x (sym (ap (λ (b : Bool). b || is_in ys x) s) ∙ on)
+    by false true p s rest = ap t (eqb-true x y s) ∙ p
+    by false false p s rest = rest (sym (ap (λ (b : Bool). if b then Some y else find t ys) p) ∙ none) x (sym (ap (λ (b : Bool). b || is_in ys x) s) ∙ on)
 
 -- where not all are named, one stays
 one_stays : (leaves : Disks) (rows : List PvRow) → list_all (λ (row : PvRow). leaves row.disk) rows ≡ false → 1 ≤ length (staying leaves rows)
 one_stays leaves [] some = absurd (false≢true (sym some))
-one_stays leaves (row ∷ rows) some = by (leaves row.disk) refl
+one_stays leaves (row ∷ rows) some = by (leaves row.disk) refl (one_stays leaves rows)
   where
-    by : (goes : Bool) → leaves row.disk ≡ goes → 1 ≤ length (staying leaves (row ∷ rows))
-    by true is = subst (λ (b : Bool). 1 ≤ length (if not b then row ∷ staying leaves rows else staying leaves rows)) (sym is)
-        (one_stays leaves rows (sym (ap (λ (b : Bool). b && list_all (λ (r : PvRow). leaves r.disk) rows) is) ∙ some))
-    by false is = subst (λ (b : Bool). 1 ≤ length (if not b then row ∷ staying leaves rows else staying leaves rows)) (sym is) (omega arith)
+    by : (goes : Bool) → leaves row.disk ≡ goes → (list_all (λ (r : PvRow). leaves r.disk) rows ≡ false → 1 ≤ length (staying leaves rows)) → 1 ≤ length (staying leaves (row ∷ rows))
+    by true is rest = subst (λ (b : Bool). 1 ≤ length (if not b then row ∷ staying leaves rows else staying leaves rows)) (sym is)
+        (rest (sym (ap (λ (b : Bool). b && list_all (λ (r : PvRow). leaves r.disk) rows) is) ∙ some))
+    by false is rest = subst (λ (b : Bool). 1 ≤ length (if not b then row ∷ staying leaves rows else staying leaves rows)) (sym is) (omega arith)
 
 pub last_valid : (d : Descriptor) (disks : List ℕ) → IsValid d → AreFree d disks → IsValid (reduced disks d)
 last_valid d disks valid free = without_valid disks false d valid (one_stays (is_in disks) d.pvs free.some_stay) (λ is. absurd (false≢true is))

@@ -1,5 +1,5 @@
 -- Why members don't leave a group, before the first write.
-use Rattle.std.specs.Prelude.{◌≡◌, ◌≢◌, ℕ, ◌≤◌, true, false, List, [], length, Option, Some, None, IsTrue, IsFalse}
+use Rattle.std.specs.Prelude.{◌≡◌, ◌≢◌, ℕ, ◌≤◌, ◌<◌, true, false, List, [], length, Option, Some, None, IsTrue, IsFalse}
 use Rattle.lvm_num.specs.declared.descriptor.Descriptor.{Descriptor}
 use Rattle.lvm_num.specs.Votes.{votes_in, total_votes, is_enough_to_write, CanWrite}
 use Rattle.lvm_vol.specs.Log.{spare_entries}
@@ -25,10 +25,11 @@ pub record HasRoom (disks : List ℕ) (core : Core) : Type 0 where
   pub entries : length disks ≤ spare_entries core.history
   pub numbers : 65536 ≤ numbers_left core
 
--- Nothing stands against it.
+-- Nothing stands against it; so fewer leave than there are.
 pub record MayReduce (disks : List ℕ) (core : Core) : Type 0 where
   pub takes : TakesCommands core
   pub free : AreFree core.descriptor disks
+  pub few : length disks < length core.descriptor.pvs
   pub votes : HasVotes disks core
   pub room : HasRoom disks core
 

@@ -37,7 +37,37 @@ either_more true b c more is = either_left b (more refl)
 either_more false true c more is = refl
 either_more false false c more is = is
 
-module _ (M N : Descriptor → Type 0) (D E : List ℕ) (more : (k : Descriptor) → M k → N k) (within : (d : ℕ) → IsTrue (is_in D d) → IsTrue (is_in E d)) (m n p q : ℕ) (few : m ≤ n) (a b : State) where
+-- what is left without a premise is left under one,
+pub as_if : (Q : Type 0) (m : ℕ) (N : Descriptor → Type 0) (E : List ℕ) (p q : ℕ) (a b : State) → LeavesWithin m N [] E p q a b → LeavesIf Q m N E p q a b
+as_if Q m N E p q a b is = record {
+  writes = is.writes;
+  status = is.status;
+  numbers = is.numbers;
+  history = is.history;
+  spans = λ run first held given. is.spans run first held;
+  finds = λ given. is.finds;
+  calm = is.calm;
+  behind = is.behind;
+  falls = is.falls;
+  spends = is.spends;
+}
+
+-- and without it, where what the session says gives it
+pub as_within : (Q : Type 0) (m : ℕ) (N : Descriptor → Type 0) (E : List ℕ) (p q : ℕ) (a b : State) → (IsHeld a.device a.core → Q) → LeavesIf Q m N E p q a b → LeavesWithin m N [] E p q a b
+as_within Q m N E p q a b give is = record {
+  writes = is.writes;
+  status = is.status;
+  numbers = is.numbers;
+  history = is.history;
+  spans = λ run first held. is.spans run first held (λ past begins. give (held past begins));
+  finds = λ held. is.finds (give held) held;
+  calm = is.calm;
+  behind = is.behind;
+  falls = is.falls;
+  spends = is.spends;
+}
+
+module _ (Q R : Type 0) (M N : Descriptor → Type 0) (D E : List ℕ) (less : R → Q) (more : (k : Descriptor) → M k → N k) (within : (d : ℕ) → IsTrue (is_in D d) → IsTrue (is_in E d)) (m n p q : ℕ) (few : m ≤ n) (a b : State) where
   change_more : (d s : ℕ) (value : Sector) → IsOfChange M [] D a b d s value → IsOfChange N [] E a b d s value
   change_more d s value (inl is) = inl is
   change_more d s value (inr (inl is)) = inr (inl (is.0, more is.0 is.1, is.2))
@@ -55,8 +85,8 @@ module _ (M N : Descriptor → Type 0) (D E : List ℕ) (more : (k : Descriptor)
   }
 
   -- so it leaves this too
-  pub within_more : LeavesWithin m M [] D p q a b → LeavesWithin n N [] E p q a b
-  within_more one = record {
+  pub if_more : LeavesIf Q m M D p q a b → LeavesIf R n N E p q a b
+  if_more one = record {
     writes = wider (among [] (among D (is_there a.core))) (among [] (among E (is_there a.core))) (IsOfChange M [] D a b) (IsOfChange N [] E a b) a.device b.device (λ d is. either_more (is_in D d) (is_in E d) (is_there a.core d) (within d) is) change_more one.writes;
     status = record {
       group = ⊎_elim (λ same. inl same) (λ its. inr (its.0, more its.0 its.1, its.2)) one.status.group;
@@ -69,21 +99,25 @@ module _ (M N : Descriptor → Type 0) (D E : List ℕ) (more : (k : Descriptor)
     };
     numbers = record { epoch = one.numbers.epoch; rises = one.numbers.rises; most = let most = one.numbers.most in omega (arith, most, few) };
     history = one.history;
-    spans = one.spans;
-    finds = λ held id k is. ⊎_elim (λ was. inl was) (λ its. inr (its.0, more k its.1)) (one.finds held id k is);
+    spans = λ run first held given. one.spans run first held (λ past begins. less (given past begins));
+    finds = λ given held id k is. ⊎_elim (λ was. inl was) (λ its. inr (its.0, more k its.1)) (one.finds (less given) held id k is);
     calm = one.calm;
     behind = one.behind;
     falls = one.falls;
     spends = one.spends;
   }
 
+pub within_more : (M N : Descriptor → Type 0) (D E : List ℕ) → ((k : Descriptor) → M k → N k) → ((d : ℕ) → IsTrue (is_in D d) → IsTrue (is_in E d)) → (m n p q : ℕ) → m ≤ n → (a b : State) → LeavesWithin m M [] D p q a b → LeavesWithin n N [] E p q a b
+within_more M N D E more within m n p q few a b one =
+    as_within (Unit {0}) n N E p q a b (λ held. tt) (if_more (Unit {0}) (Unit {0}) M N D E (λ is. is) more within m n p q few a b (as_if (Unit {0}) m M D p q a b one))
+
 -- ---- one after the other
 
 -- The group's descriptors have its id, no copy stands on a disk that leaves, and the members that aren't missing by the one are so by the one before. The premise of the second holds
 -- where the disks held what was committed before the first.
-module _ (Q : Type 0) (N : Descriptor → Type 0) (E : List ℕ) (a b c : State) (from : (b.core.descriptor ≡ a.core.descriptor) ⊎ N b.core.descriptor) (ids : (k : Descriptor) → N k → k.id ≡ a.core.status.group.id)
+module _ (Q R : Type 0) (N : Descriptor → Type 0) (E : List ℕ) (a b c : State) (from : (b.core.descriptor ≡ a.core.descriptor) ⊎ N b.core.descriptor) (ids : (k : Descriptor) → N k → k.id ≡ a.core.status.group.id)
     (apart : (k : Descriptor) → (k ≡ a.core.descriptor) ⊎ N k → (row : LvRow) (lp : ℕ) (p : Pp) → IsOneOf k.lvs row → IsOneOf (copies_of row lp) p → IsFalse (is_in E p.disk))
-    (before : (d : ℕ) → IsTrue (is_there b.core d) → IsTrue (is_there a.core d)) (still : IsHeld a.device a.core → IsHeld b.device b.core) (m n p q r : ℕ) (give : IsHeld a.device a.core → Q) (one : LeavesWithin m N [] E p q a b) (two : LeavesIf Q n N E q r b c) where
+    (before : (d : ℕ) → IsTrue (is_there b.core d) → IsTrue (is_there a.core d)) (still : Q → IsHeld a.device a.core → IsHeld b.device b.core) (m n p q r : ℕ) (give : Q → IsHeld a.device a.core → R) (one : LeavesIf Q m N E p q a b) (two : LeavesIf R n N E q r b c) where
   group_id : b.core.status.group.id ≡ a.core.status.group.id
   group_id = ⊎_elim (λ (same : b.core.status.group ≡ a.core.status.group). subst (λ (g : Descriptor). g.id ≡ a.core.status.group.id) (sym same) refl)
       (λ (its : (k : Descriptor) × N k × (b.core.status.group ≡ record k { lvs = [] })). subst (λ (g : Descriptor). g.id ≡ a.core.status.group.id) (sym its.2) (ids its.0 its.1)) one.status.group
@@ -157,8 +191,8 @@ module _ (Q : Type 0) (N : Descriptor → Type 0) (E : List ℕ) (a b c : State)
   lost d true mid is isnt = let first = one.status.lost d mid isnt in (first.0, rose_on (a.device.counts.faults d) (b.device.counts.faults d) (c.device.counts.faults d) first.1 (two.falls.faults d))
   lost d false mid is isnt = let second = two.status.lost d is mid in (before d second.0, rose_from (a.device.counts.faults d) (b.device.counts.faults d) (c.device.counts.faults d) (one.falls.faults d) second.1)
 
-  pub within_if : LeavesWithin (m + n) N [] E p r a c
-  within_if = record {
+  pub if_then : LeavesIf Q (m + n) N E p r a c
+  if_then = record {
     writes = keeps_then (among [] (among E (is_there a.core))) (IsOfChange N [] E a c) a.device b.device c.device
         (wider (among [] (among E (is_there a.core))) (among [] (among E (is_there a.core))) (IsOfChange N [] E a b) (IsOfChange N [] E a c) a.device b.device (λ d is. is) change_first one.writes)
         (wider (among [] (among E (is_there b.core))) (among [] (among E (is_there a.core))) (IsOfChange N [] E b c) (IsOfChange N [] E a c) b.device c.device (λ d is. narrowed (is_in E d) (is_there b.core d) (is_there a.core d) (before d) is) change_second two.writes);
@@ -180,8 +214,8 @@ module _ (Q : Type 0) (N : Descriptor → Type 0) (E : List ℕ) (a b c : State)
       most = (let x = one.numbers.most in let y = two.numbers.most in omega (arith, x, y));
     };
     history = record { room = two.history.room ∙ one.history.room; volumes = (let x = one.history.volumes in let y = two.history.volumes in omega (arith, x, y)); later = λ moment is. two.history.later moment (one.history.later moment is) };
-    spans = λ run first held span. two.spans run first (λ past begins. still (held past begins)) (λ past begins. give (held past begins)) (one.spans run first held span);
-    finds = λ held id k is. ⊎_elim (λ (was : MayBeFound b.device id k). one.finds held id k was) (λ (new : (id ≡ k.id) × N k). inr new) (two.finds (give held) (still held) id k is);
+    spans = λ run first held given span. two.spans run first (λ past begins. still (given past begins) (held past begins)) (λ past begins. give (given past begins) (held past begins)) (one.spans run first held given span);
+    finds = λ given held id k is. ⊎_elim (λ (was : MayBeFound b.device id k). one.finds given held id k was) (λ (new : (id ≡ k.id) × N k). inr new) (two.finds (give given held) (still given held) id k is);
     calm = λ past calm. two.calm past (one.calm past calm);
     behind = λ moment lt is. two.behind moment (subst (λ (n : ℕ). n < moment) (sym one.numbers.epoch) lt) (one.behind moment lt is);
     falls = none_falls_on one.falls two.falls;
@@ -191,19 +225,3 @@ module _ (Q : Type 0) (N : Descriptor → Type 0) (E : List ℕ) (a b c : State)
       narrowed : (e t u : Bool) → (IsTrue t → IsTrue u) → IsTrue (e || t) → IsTrue (e || u)
       narrowed true t u less is = refl
       narrowed false t u less is = less is
-
--- ---- without a premise
-
-pub as_if : (m : ℕ) (N : Descriptor → Type 0) (E : List ℕ) (p q : ℕ) (a b : State) → LeavesWithin m N [] E p q a b → LeavesIf (Unit {0}) m N E p q a b
-as_if m N E p q a b is = record {
-  writes = is.writes;
-  status = is.status;
-  numbers = is.numbers;
-  history = is.history;
-  spans = λ run first held always. is.spans run first held;
-  finds = λ always. is.finds;
-  calm = is.calm;
-  behind = is.behind;
-  falls = is.falls;
-  spends = is.spends;
-}

@@ -18,7 +18,7 @@ use Rattle.lvm_kept.specs.Contents.{note_sector}
 use Rattle.lvm_erase.specs.Erasing.{ZeroesSlots}
 use Rattle.lvm_mwc.specs.declared.notes.DiskNotes.{DiskNotes}
 use Rattle.lvm_mwc.specs.Cache.{Cached, is_named as is_named_by, notes_on}
-use Rattle.lvm_mwc.specs.Notes.{both_name}
+use Rattle.lvm_mwc.specs.Notes.{both_name, is_of_disk}
 use Rattle.lvm_status.specs.passed.Status.{IsLeftIn}
 use Rattle.lvm_commit.specs.LawsOfVolumes.{IsOnlyGroupOn}
 use Rattle.lvm_commit.specs.Settling.{there, MarksLeft, NoneIsLeft}
@@ -32,7 +32,6 @@ use Rattle.lvm_change_laws.proofs.StayingLemmas.{staying_member}
 use Rattle.lvm_turnover.specs.declared.change.Leaving.{Leaving}
 use Rattle.lvm_turnover.specs.Turning.{cache_after, disks_leaving, state_after}
 use Rattle.lvm_turnover.specs.Changing.{IsNext, IsOfChange, among, LeavesWithin}
-use Rattle.lvm_turnover.proofs.OutLemmas.{find_without}
 use Rattle.lvm_volumes.specs.Endings.{StillHeld, KeepsFresh, HasFresh}
 use Rattle.lvm_volumes.proofs.EndingsLemmas.Fresh.{HasOnePlaceEach, no_copy, volume_stays}
 use Rattle.lvm_volumes.proofs.EndingsLemmas.Notes.{SparesNotes, command_spares, notes_stay}
@@ -40,6 +39,30 @@ use Rattle.lvm_member_plan.specs.Descriptors.{without_members}
 use Rattle.lvm_member_plan.specs.Steps.{IsStep}
 
 -- ---- notes
+
+abbrev others : ℕ → List DiskNotes → List DiskNotes
+others x notes = filter (λ (n : DiskNotes). not (is_of_disk x n)) notes
+
+-- a disk's notes are those that it had, but for the one whose notes are let go
+find_without : (x d : ℕ) (notes : List DiskNotes) → find (is_of_disk d) (filter (λ n. not (is_of_disk x n)) notes) ≡ (if d == x then None else find (is_of_disk d) notes)
+find_without x d [] = by (d == x)
+  where
+    by : (b : Bool) → ◌≡◌ {A = Option DiskNotes} None (if b then None else None)
+    by true = refl
+    by false = refl
+find_without x d (n ∷ notes) = by (n.disk == x) (n.disk == d) (d == x) refl refl refl (find_without x d notes)
+  where
+    by : (goes same one : Bool) → (n.disk == x) ≡ goes → (n.disk == d) ≡ same → (d == x) ≡ one → find (is_of_disk d) (others x notes) ≡ (if one then None else find (is_of_disk d) notes)
+        → find (is_of_disk d) (if not goes then n ∷ others x notes else others x notes) ≡ (if one then None else (if same then Some n else find (is_of_disk d) notes))
+    by true true true goes same one ih = ih
+    by true true false goes same one ih = absurd (false≢true (sym one ∙ ap (λ (k : ℕ). k == x) (sym (eqb-true n.disk d same)) ∙ goes))
+    by true false one goes same is ih = ih ∙ other one
+      where
+        other : (b : Bool) → ◌≡◌ {A = Option DiskNotes} (if b then None else find (is_of_disk d) notes) (if b then None else find (is_of_disk d) notes)
+        other b = refl
+    by false true true goes same one ih = absurd (false≢true (sym goes ∙ ap (λ (k : ℕ). k == x) (eqb-true n.disk d same) ∙ one))
+    by false true false goes same one ih = ap (λ (b : Bool). if b then Some n else find (is_of_disk d) (others x notes)) same
+    by false false one goes same is ih = ap (λ (b : Bool). if b then Some n else find (is_of_disk d) (others x notes)) same ∙ ih
 
 -- what the cache says of another disk's note stays
 named_after : (leaving : Option Leaving) (cache : Cached) (d lv group : ℕ) → IsFalse (is_in (disks_leaving leaving) d) → is_named_by (cache_after leaving cache) d lv group ≡ is_named_by cache d lv group

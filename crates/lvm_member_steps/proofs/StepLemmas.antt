@@ -4,21 +4,18 @@ use Rattle.std.specs.Prelude.{Option, Result, Ok, Err, IsTrue}
 use Rattle.std.proofs.lemmas.Bool.{false≢true}
 use Rattle.lvm_num.specs.declared.descriptor.PvRow.{PvRow}
 use Rattle.lvm_num.specs.declared.descriptor.Descriptor.{Descriptor}
-use Rattle.lvm_num.specs.declared.status.Status.{Status}
 use Rattle.lvm_num.specs.Disks.{Disks}
 use Rattle.lvm_num.specs.Descriptor.{IsValid, is_member}
 use Rattle.lvm_num.specs.Votes.{CanWrite, votes_in, total_votes, is_enough_to_write}
 use Rattle.lvm_num.specs.Status.{calls_missing}
 use Rattle.lvm_disk.specs.Device.{IsReady}
 use Rattle.lvm_disk.proofs.CountingLemmas.{none_falls_at_once}
-use Rattle.lvm_status.specs.Update.{members_there}
 use Rattle.lvm_write.proofs.PartsLemmas.Transfers.{spends_none}
 use Rattle.lvm_commit.specs.Settling.{MarksLeft}
 use Rattle.lvm_session.specs.State.{Core, State, is_there}
 use Rattle.lvm_core.specs.declared.fault.CommitFault.{CommitFault}
 use Rattle.lvm_core.specs.declared.fault.CommitFault.TheVariants as fault
 use Rattle.lvm_core.specs.Committing.{is_in}
-use Rattle.lvm_core.specs.Settled.{IsSettled}
 use Rattle.lvm_core.specs.Sound.{IsSoundAtRest}
 use Rattle.lvm_change_laws.specs.Rule.{MayChange, staying}
 use Rattle.lvm_change_laws.proofs.StayingLemmas.{staying_member}
@@ -28,6 +25,7 @@ use Rattle.lvm_turnover.specs.Turning.{disks_leaving, state_after}
 use Rattle.lvm_member_plan.specs.Descriptors.{IsReducedBy}
 use Rattle.lvm_member_plan.specs.Steps.{IsStep}
 use Rattle.lvm_member_steps.specs.Steps.{StepEnds, HasComeTo, BreaksOff, WentOffAtOnce}
+use Rattle.lvm_member_steps.proofs.ComingLemmas.{come_here}
 use Rattle.lvm_member_steps.proofs.HoldingLemmas.{step_before, step_fresh, step_still}
 
 -- ---- before it
@@ -56,25 +54,7 @@ may_step leaving group next there step enough enough_too = record {
     by_quorum true is = inl (sym quorum_is ∙ is)
     by_quorum false is = inr (inl is)
 
--- the members that a session's committed status doesn't call missing are those that aren't
-pub there_by : (core : Core) (there : Disks) (d : Descriptor) (s : Status) → IsSettled core → there ≡ members_there d s → d ≡ core.descriptor → s ≡ core.status.committed → there ≡ is_there core
-there_by core there d s settled is group committed = is ∙ (λ t. members_there (group t) ((committed ∙ settled.committed) t))
-
 -- ---- how it ends
-
-come_here : (disks : List ℕ) (p : ℕ) (s : State) → IsReady s.device → HasComeTo disks p p s s
-come_here disks p s ready = record {
-  is = refl;
-  descriptor = inl refl;
-  entered = [];
-  among = λ x is. absurd (false≢true is);
-  history = refl;
-  before = λ d is. is;
-  ready = ready;
-  cuts = refl;
-  falls = none_falls_at_once s.device.counts;
-  spends = spends_none p s.device;
-}
 
 module _ (leaving : Option Leaving) (next : Descriptor) (p q : ℕ) (old new : State) (ready : IsReady old.device) (step : IsStep (disks_leaving leaving) old.core.descriptor next) where
   abbrev over : State
@@ -114,6 +94,11 @@ module _ (leaving : Option Leaving) (next : Descriptor) (p q : ℕ) (old new : S
       fewer_by true true n is = absurd (false≢true is)
       fewer_by false g n is = absurd (false≢true is)
 
+  went_off : (have total : ℕ) (disks : List ℕ) → IsReducedBy disks old.core.descriptor next → EndsFrom next p old over new (Err (fault.WentOff have total)) → BreaksOff disks p old new (fault.WentOff have total)
+  went_off have total disks its (inl it) = record { mid = old; left = p; come = come_here (is_there old.core) disks p old ready; breaks = inl (record { by = old.core.descriptor; has = old.core.descriptor; by_is = inl refl; has_is = inl refl; off = it }) }
+  went_off have total disks its (inr (inl it)) = record { mid = old; left = p; come = come_here (is_there old.core) disks p old ready; breaks = inl (record { by = next; has = old.core.descriptor; by_is = inr its; has_is = inl refl; off = it.0 }) }
+  went_off have total disks its (inr (inr it)) = record { mid = over; left = p; come = come_over disks; breaks = inl (record { by = next; has = next; by_is = inr its; has_is = inr its; off = it }) }
+
   pub step_ends : (answer : Result (Unit {0}) CommitFault) → MarksLeft next old.core.status new.core.status → LeavesWithin 3 (IsNext next) [] (disks_leaving leaving) p q old new → IsSoundAtRest new
       → EndsFrom next p old over new answer → StepEnds leaving next p old new answer
   step_ends (Ok done) left leaves sound ends = record {
@@ -126,22 +111,17 @@ module _ (leaving : Option Leaving) (next : Descriptor) (p q : ℕ) (old new : S
     still = step_still next leaving p q old new step left leaves ends;
     fresh = step_fresh next leaving p q old new step left leaves ends;
   }
-  step_ends (Err fault.Dark) left leaves sound ends disks its = ⊎_elim
-      (λ dark. record { mid = old; left = p; come = come_here disks p old ready; breaks = dark })
+  step_ends (Err fault.Dark) left leaves sound ends = λ disks its. ⊎_elim
+      (λ dark. record { mid = old; left = p; come = come_here (is_there old.core) disks p old ready; breaks = dark })
       (λ dark. record { mid = with_descriptor next over; left = p; come = come_next disks its; breaks = dark })
       ends
-  step_ends (Err fault.Stuck) left leaves sound ends disks its = ⊎_elim
-      (λ out. record { mid = old; left = p; come = come_here disks p old ready; breaks = out })
+  step_ends (Err fault.Stuck) left leaves sound ends = λ disks its. ⊎_elim
+      (λ out. record { mid = old; left = p; come = come_here (is_there old.core) disks p old ready; breaks = out })
       (λ out. record { mid = with_descriptor next over; left = p; come = come_next disks its; breaks = out })
       ends
-  step_ends (Err (fault.WentOff have total)) left leaves sound ends disks its = by ends
-    where
-      by : EndsFrom next p old over new (Err (fault.WentOff have total)) → BreaksOff disks p old new (fault.WentOff have total)
-      by (inl it) = record { mid = old; left = p; come = come_here disks p old ready; breaks = inl (old.core.descriptor, old.core.descriptor, it) }
-      by (inr (inl it)) = record { mid = old; left = p; come = come_here disks p old ready; breaks = inl (next, old.core.descriptor, it.0) }
-      by (inr (inr it)) = record { mid = over; left = p; come = come_over disks; breaks = inl (next, next, it) }
-  step_ends (Err (fault.DiskFailed disk)) left leaves sound ends disks its = absurd ends
+  step_ends (Err (fault.WentOff have total)) left leaves sound ends = λ disks its. went_off have total disks its ends
+  step_ends (Err (fault.DiskFailed disk)) left leaves sound ends = λ disks its. absurd ends
 
   -- nothing was written
   pub at_once : (have total : ℕ) → WentOffAtOnce next have total old new → StepEnds leaving next p old new (Err (fault.WentOff have total))
-  at_once have total it disks its = record { mid = old; left = p; come = come_here disks p old ready; breaks = inr (next, its, it) }
+  at_once have total it disks its = record { mid = old; left = p; come = come_here (is_there old.core) disks p old ready; breaks = inr (next, its, it) }

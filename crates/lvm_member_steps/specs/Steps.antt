@@ -1,6 +1,7 @@
 -- One step of a group on its way to fewer members, and how it ends.
 use Rattle.std.specs.Prelude.{◌≡◌, ◌⊎◌, ℕ, List, [], ◌∷◌, Option, Result, Ok, Err, IsTrue, IsFalse}
 use Rattle.lvm_num.specs.declared.descriptor.Descriptor.{Descriptor}
+use Rattle.lvm_num.specs.Disks.{Disks}
 use Rattle.lvm_num.specs.Votes.{votes_in, total_votes, is_enough_to_write}
 use Rattle.lvm_disk.specs.Counts.{NoneFalls}
 use Rattle.lvm_disk.specs.Device.{IsReady}
@@ -24,7 +25,7 @@ use Rattle.lvm_volumes.specs.Endings.{StillHeld, KeepsFresh}
 use Rattle.lvm_turnover.specs.declared.change.Leaving.{Leaving}
 use Rattle.lvm_turnover.specs.Changing.{HasGoneOffBy, among, IsOfChange, KeepsMarks}
 use Rattle.lvm_turnover.specs.Turning.{core_after}
-use Rattle.lvm_member_plan.specs.Descriptors.{IsReducedBy}
+use Rattle.lvm_member_plan.specs.Descriptors.{IsReducedBy, IsOnTheWay}
 
 -- The members that aren't missing have these votes by the next descriptor, too few to write: the session has gone off, and nothing was written.
 pub record WentOffAtOnce (next : Descriptor) (have total : ℕ) (old new : State) : Type 0 where
@@ -40,8 +41,9 @@ abbrev pub with_removed : List ℕ → Log → Log
 with_removed [] log = log
 with_removed (disk ∷ disks) log = with_removed disks (with_fact log (Removed (Disk disk)))
 
--- The session came so far on the way to a group without these members, with the patience before and then. It is at rest, and has entered that some of their disks are raw ones.
-pub record HasComeTo (disks : List ℕ) (patience left : ℕ) (old mid : State) : Type 0 where
+-- The session came so far on the way to a group without these members, with the patience before and then. It is at rest, and has entered that some of their disks are raw ones, of which
+-- this holds.
+pub record HasComeSoFar (raw : Disks) (disks : List ℕ) (patience left : ℕ) (old mid : State) : Type 0 where
   pub is : mid.core ≡ record old.core {
     descriptor = mid.core.descriptor;
     status = mid.core.status;
@@ -50,9 +52,9 @@ pub record HasComeTo (disks : List ℕ) (patience left : ℕ) (old mid : State) 
     origin = mid.core.origin;
     history = mid.core.history;
   }
-  pub descriptor : (mid.core.descriptor ≡ old.core.descriptor) ⊎ IsReducedBy disks old.core.descriptor mid.core.descriptor
+  pub descriptor : IsOnTheWay disks old.core.descriptor mid.core.descriptor
   pub entered : List ℕ
-  pub among : (x : ℕ) → IsTrue (is_in entered x) → IsTrue (is_in disks x) × IsTrue (is_there old.core x)
+  pub among : (x : ℕ) → IsTrue (is_in entered x) → IsTrue (is_in disks x) × IsTrue (raw x)
   pub history : mid.core.history ≡ with_removed entered old.core.history
   -- nobody is there who wasn't
   pub before : (d : ℕ) → IsTrue (is_there mid.core d) → IsTrue (is_there old.core d)
@@ -61,20 +63,33 @@ pub record HasComeTo (disks : List ℕ) (patience left : ℕ) (old mid : State) 
   pub falls : NoneFalls old.device.counts mid.device.counts
   pub spends : Spends patience left old.device mid.device
 
--- From there it broke off by this fault: too few members were reached, of which one failed, or too few were there for the next descriptor on the way; the power was cut; or a
--- transfer wasn't heard of.
+-- disks that were those of members which weren't missing
+abbrev pub HasComeTo : List ℕ → ℕ → ℕ → State → State → Type 0
+HasComeTo disks patience left old mid = HasComeSoFar (is_there old.core) disks patience left old mid
+
+-- Too few members were reached for one descriptor on the way, since a transfer to one failed, and the session went off with one.
+pub record WentOffBetween (disks : List ℕ) (have total : ℕ) (old mid new : State) : Type 0 where
+  pub by : Descriptor
+  pub has : Descriptor
+  pub by_is : IsOnTheWay disks old.core.descriptor by
+  pub has_is : IsOnTheWay disks old.core.descriptor has
+  pub off : HasGoneOffBy by has have total mid new
+
+-- From there it broke off by this fault: too few members were reached, or too few were there for the next descriptor on the way; the power was cut; or a transfer wasn't heard of.
 abbrev pub BreaksFrom : List ℕ → ℕ → State → State → State → CommitFault → Type 0
-BreaksFrom disks left old mid new (fault.WentOff have total) =
-    ((by : Descriptor) × (has : Descriptor) × HasGoneOffBy by has have total mid new) ⊎ ((next : Descriptor) × IsReducedBy disks old.core.descriptor next × WentOffAtOnce next have total mid new)
+BreaksFrom disks left old mid new (fault.WentOff have total) = WentOffBetween disks have total old mid new ⊎ ((next : Descriptor) × IsReducedBy disks old.core.descriptor next × WentOffAtOnce next have total mid new)
 BreaksFrom disks left old mid new fault.Dark = HasGoneDark mid new
 BreaksFrom disks left old mid new fault.Stuck = IsLeftOut left mid new
 BreaksFrom disks left old mid new (fault.DiskFailed disk) = ⊥
 
-pub record BreaksOff (disks : List ℕ) (patience : ℕ) (old new : State) (why : CommitFault) : Type 0 where
+pub record BreaksOffSoFar (raw : Disks) (disks : List ℕ) (patience : ℕ) (old new : State) (why : CommitFault) : Type 0 where
   pub mid : State
   pub left : ℕ
-  pub come : HasComeTo disks patience left old mid
+  pub come : HasComeSoFar raw disks patience left old mid
   pub breaks : BreaksFrom disks left old mid new why
+
+abbrev pub BreaksOff : List ℕ → ℕ → State → State → CommitFault → Type 0
+BreaksOff disks patience old new why = BreaksOffSoFar (is_there old.core) disks patience old new why
 
 -- ---- what is left under a premise
 

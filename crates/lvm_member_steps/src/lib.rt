@@ -1,6 +1,6 @@
 //! One step of a group that is on, on its way to fewer members.
 #![tactic(auto)]
 
-mod step;
+mod stepping;
 
-pub use step::step;
+pub use stepping::step;

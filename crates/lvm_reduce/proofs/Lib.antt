@@ -1,3 +1,4 @@
 pub mod ErasedLemmas
 pub mod ErasingLemmas
+pub mod EraseLemmas
 pub mod RawLemmas

@@ -1,5 +1,5 @@
 -- What a session leaves that took its descriptor from a disk which has left the group, once the history says that it is a raw disk.
-use Rattle.std.proofs.Common.{◌≡◌, ◌⊎◌, inl, inr, ⊎_elim, ℕ, ◌<◌, ◌++◌, Bool, true, false, ◌||◌, List, [], ◌∷◌, Option, Some, None, IfSome, refl, sym, ◌∙◌, ap, subst, arith, append_assoc}
+use Rattle.std.proofs.Common.{◌≡◌, ◌⊎◌, inl, inr, ⊎_elim, ℕ, ◌<◌, ◌++◌, Bool, true, false, ◌||◌, List, [], ◌∷◌, length, replicate, Option, Some, None, IfSome, refl, sym, ◌∙◌, ap, subst, arith, append_assoc}
 use Rattle.std.specs.Prelude.{◌==◌, IsTrue, Result, Ok, Err}
 use Rattle.std.proofs.lemmas.Bool.{eq-eqb, eqb-true, false≢true}
 use Rattle.lvm_num.specs.declared.descriptor.Descriptor.{Descriptor}
@@ -21,21 +21,25 @@ use Rattle.lvm_commit.specs.passed.Steps.{ImagesKept, Keeps, RunBegins, SpanGoes
 use Rattle.lvm_commit.specs.passed.Transfer.{Moved}
 use Rattle.lvm_commit.proofs.passed.Steps.{media_may, keeps_path}
 use Rattle.lvm_commit.specs.passed.TransferMovesMoved as moved
+use Rattle.lvm_write.specs.Parts.{DoesPart}
 use Rattle.lvm_write.proofs.WrittenLemmas.Writing.{if_told, told_at, both_from}
 use Rattle.lvm_commit.specs.Committed.{HoldsCommitted}
 use Rattle.lvm_commit.specs.Settling.{SpendsNumbers, there}
 use Rattle.lvm_erase.specs.Erasing.{ZeroesSlots, ErasesTo, ErasesInOrder}
 use Rattle.lvm_status.specs.Update.{Stored}
 use Rattle.lvm_session.specs.Dark.{all_dark}
-use Rattle.lvm_session.specs.State.{Core, State, is_there, moment_of}
+use Rattle.lvm_session.specs.Placed.{ArePlaced}
+use Rattle.lvm_session.specs.Sound.{is_dark}
+use Rattle.lvm_session.specs.State.{Core, State, state, is_there, moment_of}
 use Rattle.lvm_core.specs.declared.fault.CommitFault.{CommitFault}
-use Rattle.lvm_core.specs.Sound.{HasNoneOpen}
+use Rattle.lvm_core.specs.Sound.{HasNoneOpen, IsSoundAtRest}
 use Rattle.lvm_core.specs.Held.{IsHeld}
 use Rattle.lvm_core.specs.Committing.{is_in, with_one_out, StaysBehind}
 use Rattle.lvm_core.specs.Leaves.{KeepsHistory, IsHeldSince, NoDescriptor}
 use Rattle.lvm_core.proofs.LeavesLemmas.{keeps_same, keeps_cut as history_keeps_cut, finds_nothing}
 use Rattle.lvm_commit.specs.LawsOfFinding.{FindsNothingNewOn, FindsNothingNew}
 use Rattle.lvm_core.proofs.SoundLemmas.Dark.{cut_core, dark_is}
+use Rattle.lvm_core.proofs.SoundLemmas.Own.{SameSizes, same_sizes, fits_pool, one_out_long, sound_ready, sound_dark, sound_stuck}
 use Rattle.lvm_core.proofs.CommittingLemmas.Spanning.{path_falls, told_media, keeps_cut, calm_cut}
 use Rattle.lvm_turnover.specs.Changing.{among, IsOfChange}
 use Rattle.lvm_volumes.proofs.Leaving.{wider}
@@ -159,3 +163,28 @@ module _ (disk older p q : ℕ) (old new : State) (answer : Result (Unit {0}) Co
     falls = path_falls old.device new.device w.order;
     spends = w.part.spends;
   }
+
+  -- ---- how it ends, and what the session is then
+
+  pub erase_sizes : SameSizes old.core new.core
+  erase_sizes = by_core (SameSizes old.core) (λ is. record { most = refl; buffers = one_out_long old.core.pool }) (λ is. record { most = refl; buffers = one_out_long old.core.pool }) (same_sizes old.core)
+
+  pub erase_sound : old.core.pool ≡ replicate (length old.core.pool) false → is_dark old.core.power ≡ false → IsSoundAtRest old → IsSoundAtRest new
+  erase_sound all lit sound = by_how w.how w.part w.goes
+    where
+      placed : ArePlaced new.device.sizes old.core.descriptor old.core.status.wanted
+      placed = subst (λ (sizes : List ℕ). ArePlaced sizes old.core.descriptor old.core.status.wanted) (sym w.part.keeps.sizes) sound.placed
+
+      out : Core
+      out = record old.core { pool = with_one_out old.core.pool }
+
+      as_core : (core : Core) → new.core ≡ core → IsSoundAtRest (state new.device core) → IsSoundAtRest new
+      as_core core is it = subst (λ (c : Core). IsSoundAtRest (state new.device c)) (sym is) it
+
+      by_how : (how : Moved) → DoesPart (λ d. d == disk) (ZeroesSlots disk) disk 0 p q old.device new.device how → GoesOnErased old.core new.core how answer → IsSoundAtRest new
+      by_how (moved.Done back) part goes = as_core old.core goes.1 (sound_ready new.device old.core sound.fitting open_none sound.landed placed all lit sound.heard part.rests)
+      by_how (moved.Failed back) part goes = as_core old.core goes.1 (sound_ready new.device old.core sound.fitting open_none sound.landed placed all lit sound.heard part.rests)
+      by_how (moved.Dark started) part goes = as_core (all_dark out) goes.1
+          (sound_dark old.device new.device out old.core.pool (fits_pool old.core (with_one_out old.core.pool) (one_out_long old.core.pool) sound.fitting) out_none sound.landed placed refl all sound.fitting.a_buffer part.leaves)
+      by_how moved.Stuck part goes = as_core out goes.1
+          (sound_stuck p old.device new.device out old.core.pool (fits_pool old.core (with_one_out old.core.pool) (one_out_long old.core.pool) sound.fitting) out_none sound.landed placed refl all sound.fitting.a_buffer lit sound.heard part.leaves)

@@ -3,40 +3,49 @@ use Rattle.std.specs.Prelude.{◌≡◌, ◌⊎◌, ℕ, ◌==◌, Bool, true, f
 use Rattle.lvm_disk.specs.Counts.{Rose}
 use Rattle.lvm_disk.specs.Device.{IsReady}
 use Rattle.lvm_mwc.specs.declared.notes.DiskNotes.{DiskNotes}
-use Rattle.lvm_erase.specs.Erasing.{IsErased}
 use Rattle.lvm_status.specs.Rerowed.{IsRerowed}
 use Rattle.lvm_session.specs.State.{State, is_there}
 use Rattle.lvm_core.specs.declared.fault.CommitFault.{CommitFault}
 use Rattle.lvm_core.specs.declared.fault.CommitFault.TheVariants as commit
 use Rattle.lvm_core.specs.Committing.{is_in}
 use Rattle.lvm_core.specs.Settled.{IsSettled}
+use Rattle.lvm_volume_plan.specs.PlannedVolume.{AreOfOneGroup}
+use Rattle.lvm_volumes.specs.Endings.{StillHeld, KeepsFresh}
 use Rattle.lvm_member_plan.specs.declared.fault.ReduceFault.{ReduceFault}
 use Rattle.lvm_member_plan.specs.declared.fault.ReduceFault.TheVariants as fault
 use Rattle.lvm_member_plan.specs.Descriptors.{reduced}
 use Rattle.lvm_member_plan.specs.Refusals.{MayReduce, RefusesReduce}
 use Rattle.lvm_member_steps.specs.Steps.{BreaksOff, with_removed}
+use Rattle.lvm_reduce.specs.Erasing.{IsErasedOrFailed}
 
--- ---- faults
+-- ---- answers
 
--- it is one of the writing of records
-abbrev pub IsOfRecords : CommitFault → Type 0
-IsOfRecords (commit.DiskFailed disk) = ⊥
+-- the answer of the command where the writing of records had this one
+abbrev pub IsAnswerOf : Result (Unit {0}) CommitFault → Result (Unit {0}) ReduceFault → Type 0
+IsAnswerOf (Ok done) answer = answer ≡ Ok tt
+IsAnswerOf (Err commit.Dark) answer = answer ≡ Err fault.Dark
+IsAnswerOf (Err (commit.WentOff have total)) answer = answer ≡ Err (fault.WentOff have total)
+IsAnswerOf (Err commit.Stuck) answer = answer ≡ Err fault.Stuck
+IsAnswerOf (Err (commit.DiskFailed disk)) answer = ⊥
+
+-- it isn't that of a disk that failed
+abbrev pub IsOfRecords : Result (Unit {0}) CommitFault → Type 0
+IsOfRecords (Err (commit.DiskFailed disk)) = ⊥
 IsOfRecords _ = Unit {0}
 
--- so the command has this one
-abbrev pub IsFaultOf : CommitFault → ReduceFault → Type 0
-IsFaultOf commit.Dark why = why ≡ fault.Dark
-IsFaultOf (commit.WentOff have total) why = why ≡ fault.WentOff have total
-IsFaultOf commit.Stuck why = why ≡ fault.Stuck
-IsFaultOf (commit.DiskFailed disk) why = ⊥
-
 -- ---- where it is done
+
+-- these are some of the others, each once, in their order
+abbrev pub IsPartOf : List ℕ → List ℕ → Type 0
+IsPartOf some [] = some ≡ []
+IsPartOf some (x ∷ all) = IsPartOf some all ⊎ ((rest : List ℕ) × (some ≡ x ∷ rest) × IsPartOf rest all)
 
 -- Entered are disks that left and were there, and each of them shows no descriptor, or a transfer of it failed; of the others that were there each had a transfer that failed.
 pub record HasEntered (disks entered : List ℕ) (old new : State) : Type 0 where
   pub history : new.core.history ≡ with_removed entered old.core.history
+  pub part : IsPartOf entered disks
   pub among : (x : ℕ) → IsTrue (is_in entered x) → IsTrue (is_in disks x) × IsTrue (is_there old.core x)
-  pub erased : (x : ℕ) → IsTrue (is_in entered x) → IsErased x new.device ⊎ Rose (old.device.counts.faults x) (new.device.counts.faults x)
+  pub erased : (x : ℕ) → IsTrue (is_in entered x) → IsErasedOrFailed x old.device new.device
   pub others : (x : ℕ) → IsTrue (is_in disks x) → IsTrue (is_there old.core x) → IsFalse (is_in entered x) → Rose (old.device.counts.faults x) (new.device.counts.faults x)
 
 -- The members have left: the session is one of the group without them.
@@ -56,6 +65,19 @@ pub record HasReduced (disks : List ℕ) (old new : State) : Type 0 where
   pub enters : HasEntered disks entered old new
   pub ready : IsReady new.device
   pub cuts : new.device.counts.cuts ≡ old.device.counts.cuts
+
+-- So the members have left one after the other, and what the disks held they hold.
+pub record HasLeft (disks : List ℕ) (old new : State) : Type 0 where
+  pub reduced : HasReduced disks old new
+  pub group : AreOfOneGroup new.core
+  pub before : (d : ℕ) → IsTrue (is_there new.core d) → IsTrue (is_there old.core d)
+  pub still : StillHeld old new
+  pub fresh : KeepsFresh old new
+
+-- what that answers
+abbrev pub LeaveEnds : List ℕ → ℕ → State → State → Result (Unit {0}) CommitFault → Type 0
+LeaveEnds disks patience old new (Ok done) = HasLeft disks old new
+LeaveEnds disks patience old new (Err why) = BreaksOff disks patience old new why
 
 -- ---- what is answered
 

@@ -1,10 +1,10 @@
 -- How a disk that has left a group loses the descriptor that it shows.
-use Rattle.std.specs.Prelude.{◌≡◌, ◌==◌, ℕ, [], ◌∷◌, IfSome, IsTrue, Result, Ok, Err}
+use Rattle.std.specs.Prelude.{◌≡◌, ◌⊎◌, ◌==◌, ℕ, [], ◌∷◌, IfSome, IsTrue, Result, Ok, Err}
 use Rattle.lvm_num.specs.declared.record.Kind.TheVariants as kind
-use Rattle.lvm_num.specs.declared.descriptor.Descriptor.{Descriptor}
 use Rattle.lvm_num.specs.DescriptorBytes.{descriptor_of}
 use Rattle.lvm_rec.specs.Slots.{slot_for}
 use Rattle.lvm_disk.specs.Device.{Image, Device, image_of}
+use Rattle.lvm_disk.specs.Counts.{Rose}
 use Rattle.lvm_disk.specs.Paths.{DeviceStep, Path}
 use Rattle.lvm_vol.specs.declared.entry.Vol.TheVariants.{Disk}
 use Rattle.lvm_vol.specs.Facts.{Removed}
@@ -13,8 +13,8 @@ use Rattle.lvm_kept.specs.Contents.{contents_of}
 use Rattle.lvm_kept.specs.Group.{passes, is_of}
 use Rattle.lvm_transfer.specs.declared.moves.Moved.{Moved}
 use Rattle.lvm_transfer.specs.declared.moves.Moved.TheVariants as moved
-use Rattle.lvm_write.specs.Parts.{DoesPart}
-use Rattle.lvm_erase.specs.Erasing.{ZeroesSlots, ErasesInOrder}
+use Rattle.lvm_write.specs.Parts.{DoesPart, IfMoved}
+use Rattle.lvm_erase.specs.Erasing.{ZeroesSlots, ErasesInOrder, IsErased}
 use Rattle.lvm_session.specs.Dark.{all_dark}
 use Rattle.lvm_session.specs.State.{Core, State}
 use Rattle.lvm_core.specs.declared.fault.CommitFault.{CommitFault}
@@ -44,12 +44,22 @@ pub record ErasesDisk (disk older before after : ℕ) (old new : State) (answer 
   pub how : Moved
   pub part : DoesPart (λ d. d == disk) (ZeroesSlots disk) disk 0 before after old.device new.device how
   pub order : Path DeviceStep (ErasesInOrder disk older old.device) old.device new.device
+  pub erased : IfMoved how (λ back. IsErased disk new.device)
   pub goes : GoesOnErased old.core new.core how answer
 
 -- ---- what it answers
 
+-- the disk shows no descriptor, or a transfer of it failed
+abbrev pub IsErasedOrFailed : ℕ → Device → Device → Type 0
+IsErasedOrFailed disk old new = IsErased disk new ⊎ Rose (old.counts.faults disk) (new.counts.faults disk)
+
+-- The session is as it was, but for what it has entered.
+pub record HasErased (disk : ℕ) (old new : State) : Type 0 where
+  pub same : IsAsBefore (as_raw disk old) new
+  pub erased : IsErasedOrFailed disk old.device new.device
+
 abbrev pub EraseEnds : ℕ → ℕ → State → State → Result (Unit {0}) CommitFault → Type 0
-EraseEnds disk patience old new (Ok done) = IsAsBefore (as_raw disk old) new
+EraseEnds disk patience old new (Ok done) = HasErased disk old new
 EraseEnds disk patience old new (Err fault.Dark) = HasGoneDark (as_raw disk old) new
 EraseEnds disk patience old new (Err fault.Stuck) = IsLeftOut patience (as_raw disk old) new
 EraseEnds disk patience old new (Err (fault.WentOff have total)) = ⊥

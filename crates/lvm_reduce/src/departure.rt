@@ -1,4 +1,4 @@
-//! The turns by which one member leaves its group.
+//! The changes by which one member leaves its group.
 ghost use Rattle.std.specs.Prelude.{◌≡◌, [], ◌∷◌, IfOk, IfSome};
 ghost use Rattle.lvm_num.specs.Descriptor.{IsValid};
 ghost use Rattle.lvm_status.specs.Rerowed.{IsRerowed};
@@ -12,7 +12,7 @@ use lvm_session::Session;
 use lvm_turnover::{Change, Leaving};
 use std::alloc::Global;
 
-/// The turns by which a member leaves. All memory is taken with it.
+/// The changes by which a member leaves. All memory is taken with it.
 #[derive(Drop)]
 pub struct Departure {
     pub disk: u16,
@@ -32,7 +32,7 @@ pub struct Mark {
     pub second_is_older: bool,
 }
 
-/// The turns by which this member leaves the group.
+/// The changes by which this member leaves the group.
 pub(crate) fn departure(
     alloc: Global,
     session: &Session,

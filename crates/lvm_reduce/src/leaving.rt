@@ -1,15 +1,17 @@
 //! One member leaves a group that is on.
-ghost use Rattle.std.specs.Prelude.{◌≡◌, ◌≤◌, ◌<◌, ℕ, List, [], ◌∷◌, length, false, IfSome, IfNone};
-ghost use Rattle.lvm_num.specs.declared.status.Status.{Status};
+ghost use Rattle.std.specs.Prelude.{◌≡◌, ◌≤◌, ◌<◌, ◌+◌, ◌*◌, ℕ, List, [], ◌∷◌, length, false, IfSome, IfNone, IsTrue};
 ghost use Rattle.lvm_num.specs.Descriptor.{is_member};
 ghost use Rattle.lvm_disk.specs.Device.{IsReady};
 ghost use Rattle.lvm_vol.specs.Log.{spare_entries};
+ghost use Rattle.lvm_write.specs.Written.{HasRoom};
 ghost use Rattle.lvm_core.specs.State.{state_of};
+ghost use Rattle.lvm_core.specs.Leaves.{NoDescriptor};
 ghost use Rattle.lvm_core.specs.Settled.{IsSettled, HasSpareNumbers};
 ghost use Rattle.lvm_volume_plan.specs.PlannedVolume.{AreOfOneGroup};
 ghost use Rattle.lvm_turnover.specs.Changing.{LeavesWithin};
 ghost use Rattle.lvm_member_plan.specs.Descriptors.{IsReducedBy};
-ghost use Rattle.lvm_reduce.specs.Departures.{CanDepart, IsDeparture, IsTurnFrom, IsMarked, IsUnmarked, HasNumbersFor, DepartEnds, TurnIfEnds};
+ghost use Rattle.lvm_member_steps.specs.Steps.{LeavesIf, StepEnds};
+ghost use Rattle.lvm_reduce.specs.Departures.{CanDepart, IsTurnFrom, IsWayOut, IsMarked, IsUnmarked, IsOnShelf, HasNumbersFor, ShowsIfMarked, TidyEnds, CloseEnds, DepartEnds, changes_of, next_of};
 
 use crate::departure::{Departure, Mark};
 use crate::erasing::erase;
@@ -30,11 +32,11 @@ pub(crate) fn depart<S: Shelf>(
     requires settled { IsSettled driver.1 }
     requires group { AreOfOneGroup driver.1 }
     requires ready { IsReady (S.device driver.0) }
-    requires numbers { HasNumbersFor 1 driver.1 }
+    requires numbers { HasNumbersFor 2 driver.1 }
     requires spare { 1 ≤ spare_entries driver.1.history }
     requires departs { CanDepart driver.1.descriptor departure }
-    ensures ends { (origin : Status) → IsDeparture origin driver.1.descriptor departure → DepartEnds origin departure.disk patience.old.left (state_of S.device driver) (state_of S.device result.0) result.1 }
-    ensures leaves { LeavesWithin 9 (IsReducedBy (departure.disk ∷ []) driver.1.descriptor) [] (departure.disk ∷ []) patience.old.left patience.new.left (state_of S.device driver) (state_of S.device result.0) }
+    ensures ends { DepartEnds departure.disk departure.out.leaving patience.old.left (state_of S.device driver) (state_of S.device result.0) result.1 }
+    ensures leaves { LeavesWithin 6 (IsReducedBy (departure.disk ∷ []) driver.1.descriptor) [] (departure.disk ∷ []) patience.old.left patience.new.left (state_of S.device driver) (state_of S.device result.0) }
 {
     let Departure {
         disk,
@@ -42,11 +44,11 @@ pub(crate) fn depart<S: Shelf>(
         out,
         after,
     } = departure;
-    let (driver, answer) = turn_if(driver, before, patience);
-    if answer.is_err() {
-        return (driver, answer);
+    let (driver, answer) = change_if(driver, before, patience);
+    match answer {
+        Ok(()) => leave(driver, disk, out, after, patience),
+        Err(why) => (driver, Err(why)),
     }
-    leave(driver, disk, out, after, patience)
 }
 
 // Takes it out of a group that is ready for it.
@@ -56,32 +58,52 @@ fn leave<S: Shelf>(
     out: Change,
     after: Option<Change>,
     patience: &mut Patience,
-) -> (CommandDriver<S>, Result<(), CommitFault>) {
+) -> (CommandDriver<S>, Result<(), CommitFault>)
+    requires settled { IsSettled driver.1 }
+    requires group { AreOfOneGroup driver.1 }
+    requires ready { IsReady (S.device driver.0) }
+    requires numbers { HasNumbersFor (1 + changes_of after) driver.1 }
+    requires spare { 1 ≤ spare_entries driver.1.history }
+    requires way { IsWayOut disk driver.1.descriptor out after }
+    ensures ends { DepartEnds disk out.leaving patience.old.left (state_of S.device driver) (state_of S.device result.0) result.1 }
+    ensures leaves { LeavesWithin (3 + 3 * changes_of after) (IsReducedBy (disk ∷ []) driver.1.descriptor) [] (disk ∷ []) patience.old.left patience.new.left (state_of S.device driver) (state_of S.device result.0) }
+{
     let (driver, mark) = mark_of(driver, disk);
     let (driver, answer) = step(driver, out, patience);
-    if answer.is_err() {
-        return (driver, answer);
+    match answer {
+        Ok(()) => close(driver, disk, mark, after, patience),
+        Err(why) => (driver, Err(why)),
     }
-    close(driver, disk, mark, after, patience)
 }
 
-// Goes on once it has left: the two that stay are even no more, and its disk is erased.
+// Goes on once it has left: the two that stay are even no more, and its disk is taken care of.
 fn close<S: Shelf>(
     driver: CommandDriver<S>,
     disk: u16,
     mark: Option<Mark>,
     after: Option<Change>,
     patience: &mut Patience,
-) -> (CommandDriver<S>, Result<(), CommitFault>) {
-    let (driver, answer) = turn_if(driver, after, patience);
-    if answer.is_err() {
-        return (driver, answer);
+) -> (CommandDriver<S>, Result<(), CommitFault>)
+    requires settled { IsSettled driver.1 }
+    requires group { AreOfOneGroup driver.1 }
+    requires ready { IsReady (S.device driver.0) }
+    requires numbers { HasNumbersFor (changes_of after) driver.1 }
+    requires spare { 1 ≤ spare_entries driver.1.history }
+    requires stranger { is_member driver.1.descriptor disk ≡ false }
+    requires after { IfSome after (IsTurnFrom driver.1.descriptor) }
+    requires marked { IfSome mark (IsOnShelf disk (state_of S.device driver)) }
+    ensures ends { CloseEnds disk mark (next_of after driver.1.descriptor) patience.old.left (state_of S.device driver) (state_of S.device result.0) result.1 }
+    ensures leaves { LeavesIf (ShowsIfMarked disk mark (state_of S.device driver)) (3 * changes_of after) (IsReducedBy (disk ∷ []) driver.1.descriptor) (disk ∷ []) patience.old.left patience.new.left (state_of S.device driver) (state_of S.device result.0) }
+{
+    let (driver, answer) = change_if(driver, after, patience);
+    match answer {
+        Ok(()) => tidy(driver, disk, mark, patience),
+        Err(why) => (driver, Err(why)),
     }
-    erase_if(driver, disk, mark, patience)
 }
 
-// Makes a turn by which no member leaves, if there is one.
-fn turn_if<S: Shelf>(
+// Makes a change by which no member leaves, if there is one.
+fn change_if<S: Shelf>(
     driver: CommandDriver<S>,
     change: Option<Change>,
     patience: &mut Patience,
@@ -89,10 +111,10 @@ fn turn_if<S: Shelf>(
     requires settled { IsSettled driver.1 }
     requires group { AreOfOneGroup driver.1 }
     requires ready { IsReady (S.device driver.0) }
-    requires numbers { HasSpareNumbers driver.1 }
+    requires numbers { HasNumbersFor (changes_of change) driver.1 }
     requires turn { IfSome change (IsTurnFrom driver.1.descriptor) }
-    ensures ends { TurnIfEnds change patience.old.left (state_of S.device driver) (state_of S.device result.0) result.1 }
-    ensures leaves { (disks : List ℕ) → LeavesWithin 3 (IsReducedBy disks driver.1.descriptor) [] disks patience.old.left patience.new.left (state_of S.device driver) (state_of S.device result.0) }
+    ensures ends { StepEnds None (next_of change driver.1.descriptor) patience.old.left (state_of S.device driver) (state_of S.device result.0) result.1 }
+    ensures leaves { (disks : List ℕ) → LeavesWithin (3 * changes_of change) (IsReducedBy disks driver.1.descriptor) [] [] patience.old.left patience.new.left (state_of S.device driver) (state_of S.device result.0) }
 {
     match change {
         Some(change) => step(driver, change, patience),
@@ -102,6 +124,8 @@ fn turn_if<S: Shelf>(
 
 // What there is of a member that isn't missing.
 fn mark_of<S: Shelf>(driver: CommandDriver<S>, disk: u16) -> (CommandDriver<S>, Option<Mark>)
+    requires settled { IsSettled driver.1 }
+    requires member { IsTrue (is_member driver.1.descriptor disk) }
     ensures shelf { result.0.0 ≡ driver.0 }
     ensures core { result.0.1 ≡ driver.1 }
     ensures some { IfSome result.1 (IsMarked disk (state_of S.device driver)) }
@@ -127,17 +151,20 @@ fn mark_of<S: Shelf>(driver: CommandDriver<S>, disk: u16) -> (CommandDriver<S>, 
     )
 }
 
-// Erases the disk, where no transfer to it has failed since.
-fn erase_if<S: Shelf>(
+// Erases the disk, where it is marked and no transfer to it has failed since.
+fn tidy<S: Shelf>(
     driver: CommandDriver<S>,
     disk: u16,
     mark: Option<Mark>,
     patience: &mut Patience,
 ) -> (CommandDriver<S>, Result<(), CommitFault>)
     requires settled { IsSettled driver.1 }
+    requires ready { IsReady (S.device driver.0) }
     requires spare { 1 ≤ spare_entries driver.1.history }
-    requires room { disk < length (S.device driver.0).sizes }
     requires stranger { is_member driver.1.descriptor disk ≡ false }
+    requires marked { IfSome mark (IsOnShelf disk (state_of S.device driver)) }
+    ensures ends { TidyEnds disk mark patience.old.left (state_of S.device driver) (state_of S.device result.0) result.1 }
+    ensures leaves { LeavesIf (ShowsIfMarked disk mark (state_of S.device driver)) 0 NoDescriptor (disk ∷ []) patience.old.left patience.new.left (state_of S.device driver) (state_of S.device result.0) }
 {
     let Some(mark) = mark else {
         return (driver, Ok(()));

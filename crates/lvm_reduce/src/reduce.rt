@@ -1,16 +1,19 @@
 //! Members leave a group that is on.
-
-ghost use Rattle.std.specs.Prelude.{◌≡◌, ◌≢◌, ◌≤◌, length, AllPairs, IfOk, IfErr};
+ghost use Rattle.std.specs.Prelude.{◌≡◌, ◌≢◌, ◌≤◌, ◌*◌, [], length, AllPairs, IfOk};
+ghost use Rattle.lvm_num.specs.Descriptor.{IsValid};
+ghost use Rattle.lvm_disk.specs.Device.{IsReady};
+ghost use Rattle.lvm_vol.specs.Log.{spare_entries};
 ghost use Rattle.lvm_core.specs.State.{state_of};
 ghost use Rattle.lvm_core.specs.Settled.{IsSettled};
 ghost use Rattle.lvm_volume_plan.specs.Faults.{TakesCommands};
 ghost use Rattle.lvm_volume_plan.specs.PlannedVolume.{AreOfOneGroup};
 ghost use Rattle.lvm_volumes.specs.Endings.{StillHeld, KeepsFresh};
-ghost use Rattle.lvm_turnover.specs.Changing.{ChangeLeaves};
-ghost use Rattle.lvm_member_plan.specs.Descriptors.{IsReducedBy};
+ghost use Rattle.lvm_turnover.specs.Changing.{ChangeLeaves, LeavesWithin};
+ghost use Rattle.lvm_member_plan.specs.Descriptors.{IsReducedBy, reduced};
 ghost use Rattle.lvm_member_plan.specs.Refusals.{MayReduce};
-ghost use Rattle.lvm_reduce.specs.Answers.{IfOn, IsFaultOf, IsOfRecords, ReduceGives};
-ghost use Rattle.lvm_reduce.specs.Departures.{AreDepartures, disks_of};
+ghost use Rattle.lvm_member_plan.specs.Steps.{MayDepartAll};
+ghost use Rattle.lvm_reduce.specs.Answers.{IfOn, IsAnswerOf, IsOfRecords, LeaveEnds, ReduceGives};
+ghost use Rattle.lvm_reduce.specs.Departures.{AreDepartures, HasNumbersFor, disks_of};
 
 use crate::departure::{Departure, departure};
 use crate::leaving::depart;
@@ -82,11 +85,15 @@ fn leave_all<S: Shelf>(
     // whatever the answer
     ensures leaves { ChangeLeaves (IsReducedBy disks.now driver.1.descriptor) [] disks.now patience.old.left patience.new.left (state_of S.device driver) (state_of S.device result.driver) }
 {
-    let (shelf, session) = driver.into_parts();
-    let planned = departures(alloc, &session, disks);
-    let driver = CommandDriver::from_parts(shelf, session);
+    let (driver, planned) = plan(alloc, driver, disks);
     match planned {
-        Ok(departures) => depart_all(driver, departures, patience),
+        Ok(departures) => {
+            let (driver, answer) = depart_all(driver, departures, patience);
+            Reduced {
+                driver,
+                answer: reduce_answer(answer),
+            }
+        }
         Err(Memory) => Reduced {
             driver,
             answer: Err(ReduceFault::Memory),
@@ -94,12 +101,34 @@ fn leave_all<S: Shelf>(
     }
 }
 
-// The turns by which these members leave.
-fn departures(alloc: Global, session: &Session, disks: &[u16]) -> Result<Vec<Departure>, Memory>
-    ensures planned { IfOk result (AreDepartures session.now.origin.table session.now.descriptor) }
-    ensures disks { IfOk result (λ ps. disks_of ps ≡ disks.now) }
+// The changes by which these members leave a settled session's group, which is ready for them.
+fn plan<S: Shelf>(
+    alloc: Global,
+    driver: CommandDriver<S>,
+    disks: &[u16],
+) -> (CommandDriver<S>, Result<Vec<Departure>, Memory>)
+    requires settled { IsSettled driver.1 }
+    requires valid { IsValid driver.1.descriptor }
+    requires may { MayDepartAll driver.1.descriptor disks.now }
+    ensures shelf { result.0.0 ≡ driver.0 }
+    ensures core { result.0.1 ≡ driver.1 }
+    ensures ready { IsReady (S.device driver.0) }
+    ensures planned { IfOk result.1 (λ ps. AreDepartures driver.1.origin.table driver.1.descriptor ps.items) }
+    ensures disks { IfOk result.1 (λ ps. disks_of ps.items ≡ disks.now) }
 {
-    let mut planned = Vec::with_capacity(alloc, disks.len())?;
+    let (shelf, session) = driver.into_parts();
+    let planned = departures(alloc, &session, disks);
+    (CommandDriver::from_parts(shelf, session), planned)
+}
+
+// The changes by which these members leave the group of a session.
+fn departures(alloc: Global, session: &Session, disks: &[u16]) -> Result<Vec<Departure>, Memory>
+    requires valid { IsValid session.now.descriptor }
+    requires may { MayDepartAll session.now.descriptor disks.now }
+    ensures planned { IfOk result (λ ps. AreDepartures session.now.origin.table session.now.descriptor ps.items) }
+    ensures disks { IfOk result (λ ps. disks_of ps.items ≡ disks.now) }
+{
+    let mut planned = Vec::new(alloc);
     let mut group = clone_descriptor(alloc, &session.descriptor)?;
     for disk in disks {
         planned.push(departure(alloc, session, &group, *disk)?)?;
@@ -113,33 +142,41 @@ fn depart_all<S: Shelf>(
     driver: CommandDriver<S>,
     departures: Vec<Departure>,
     patience: &mut Patience,
-) -> Reduced<S> {
+) -> (CommandDriver<S>, Result<(), CommitFault>)
+    requires settled { IsSettled driver.1 }
+    requires group { AreOfOneGroup driver.1 }
+    requires ready { IsReady (S.device driver.0) }
+    requires some { 1 ≤ length departures.items }
+    requires numbers { HasNumbersFor (2 * length departures.items) driver.1 }
+    requires spare { length departures.items ≤ spare_entries driver.1.history }
+    requires depart { AreDepartures driver.1.origin.table driver.1.descriptor departures.items }
+    requires last { IsValid (reduced (disks_of departures.items) driver.1.descriptor) }
+    ensures ends { LeaveEnds (disks_of departures.items) patience.old.left (state_of S.device driver) (state_of S.device result.0) result.1 }
+    ensures leaves { LeavesWithin (6 * length departures.items) (IsReducedBy (disks_of departures.items) driver.1.descriptor) [] (disks_of departures.items) patience.old.left patience.new.left (state_of S.device driver) (state_of S.device result.0) }
+{
     let mut driver = driver;
-    for departure in departures {
+    let mut rest = departures;
+    while !rest.is_empty() {
+        let departure = rest.remove(0);
         let (left, answer) = depart(driver, departure, patience);
         driver = left;
-        if let Err(fault) = answer {
-            return Reduced {
-                driver,
-                answer: Err(reduce_fault(fault)),
-            };
+        if let Err(why) = answer {
+            return (driver, Err(why));
         }
     }
-    Reduced {
-        driver,
-        answer: Ok(()),
-    }
+    (driver, Ok(()))
 }
 
-// The command's fault for one of the writing of records.
-fn reduce_fault(fault: CommitFault) -> ReduceFault
-    requires { IsOfRecords fault }
-    ensures { IsFaultOf fault result }
+// The command's answer for one of the writing of records.
+fn reduce_answer(answer: Result<(), CommitFault>) -> Result<(), ReduceFault>
+    requires { IsOfRecords answer }
+    ensures { IsAnswerOf answer result }
 {
-    match fault {
-        CommitFault::Dark => ReduceFault::Dark,
-        CommitFault::WentOff { have, total } => ReduceFault::WentOff { have, total },
-        CommitFault::Stuck => ReduceFault::Stuck,
-        CommitFault::DiskFailed { .. } => unreachable!(),
+    match answer {
+        Ok(()) => Ok(()),
+        Err(CommitFault::Dark) => Err(ReduceFault::Dark),
+        Err(CommitFault::WentOff { have, total }) => Err(ReduceFault::WentOff { have, total }),
+        Err(CommitFault::Stuck) => Err(ReduceFault::Stuck),
+        Err(CommitFault::DiskFailed { .. }) => unreachable!(),
     }
 }

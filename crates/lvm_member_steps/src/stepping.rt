@@ -1,5 +1,5 @@
 //! One turn of a group on its way, where the votes are enough for it.
-ghost use Rattle.std.specs.Prelude.{◌≡◌};
+ghost use Rattle.std.specs.Prelude.{◌≡◌, []};
 ghost use Rattle.lvm_disk.specs.Device.{IsReady};
 ghost use Rattle.lvm_session.specs.declared.open.Power.TheVariants as power;
 ghost use Rattle.lvm_volume_plan.specs.PlannedVolume.{AreOfOneGroup};

@@ -1,13 +1,15 @@
-use Rattle.std.proofs.Common.{ℕ, ap, subst, sym, ◌∙◌}
+use Rattle.std.proofs.Common.{◌≡◌, ℕ, ap, subst, sym, ◌∙◌}
 use Rattle.lvm_num.specs.declared.descriptor.Descriptor.{Descriptor}
 use Rattle.lvm_num.specs.Disks.{Disks, has}
 use Rattle.lvm_num.specs.Votes.{CanWrite, votes_in}
+use Rattle.lvm_session.specs.declared.open.Power.TheVariants as power
 use Rattle.lvm_session.specs.State.{State, state, is_there}
 use Rattle.lvm_turnover.specs.Changing.{IsNext}
 use Rattle.lvm_turnover.specs.Turning.{disks_leaving}
 use Rattle.lvm_member_steps.proofs.OffLemmas.{off_leaves}
-use Rattle.lvm_member_steps.proofs.StepLemmas.{at_once, may_step, step_ends, there_by}
-use Rattle.lvm_member_steps.proofs.step.step.Goals as goal
+use Rattle.lvm_member_plan.proofs.VotesLemmas.{there_by}
+use Rattle.lvm_member_steps.proofs.StepLemmas.{at_once, may_step, step_ends}
+use Rattle.lvm_member_steps.proofs.stepping.step.Goals as goal
 
 pub few_votes-requires : goal.few_votes-requires
 few_votes-requires g c = c.requires.step.valid_next
@@ -26,7 +28,7 @@ returns-in-Some g c =
     let next : Descriptor = c.args.change.next in
     let p : ℕ = c.args.patience.now.left in
     let there = there_by core (has c.members_there-there.result) c.descriptor.result.now c.table.result.now c.requires.settled c.members_there-there.ensures c.descriptor.ensures.same c.table.ensures in
-    let is = (λ t. state (g.S.Shelf.device (c.gone_off.ensures.shelf t)) (c.gone_off.ensures.core t)) in
+    let is : new ≡ record { device = old.device; core = record old.core { power = power.Off } } = λ t. state (g.S.Shelf.device (c.gone_off.ensures.shelf t)) (c.gone_off.ensures.core t) in
     let few = c.in-Some.ensures.few in
     record {
       ends = at_once c.args.change.leaving next p p old new c.requires.ready c.requires.step c.in-Some.have c.in-Some.total (record { have_is = few.0 ∙ ap (votes_in next) there; total_is = few.1; few = few.2; is = is });

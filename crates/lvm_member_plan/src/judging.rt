@@ -1,5 +1,5 @@
 //! What stands against members' leaving.
-ghost use Rattle.std.specs.Prelude.{◌≡◌, ◌↔◌, ℕ, List, IfOk, IfErr, IfSome, IfNone, IsTrue, IsFalse};
+ghost use Rattle.std.specs.Prelude.{◌≡◌, ◌≢◌, ◌↔◌, ℕ, List, AllPairs, IfOk, IfErr, IfSome, IfNone, IsTrue, IsFalse};
 ghost use Rattle.lvm_num.specs.Votes.{votes_in, total_votes, is_enough_to_write, CanWrite};
 ghost use Rattle.std.specs.Option.{option_copied};
 ghost use Rattle.lvm_num.specs.Descriptor.{IsValid};
@@ -29,6 +29,7 @@ pub fn check<S: Shelf>(
     disks: &[u16],
 ) -> Result<(), ReduceFault>
     requires settled { TakesCommands driver.now.1 → IsSettled driver.now.1 }
+    requires differ { AllPairs (λ a b. a ≢ b) disks.now }
     ensures may { IfOk result (λ done. MayReduce disks.now driver.now.1) }
     ensures group { IfOk result (λ done. AreOfOneGroup driver.now.1) }
     ensures refused { IfErr result (RefusesReduce disks.now driver.now.1) }
