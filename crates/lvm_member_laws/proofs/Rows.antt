@@ -1,8 +1,8 @@
 -- Members once some have left, and rows of statuses.
-use Rattle.std.proofs.Common.{◌≡◌, inl, inr, ℕ, zero, suc, ◌+◌, ◌<◌, ◌≤◌, ◌≢◌, ◌==◌, get_or, Option, Some, None, Bool, true, false, ◌&&◌, ◌||◌, not, List, [], ◌∷◌, length, if◌then◌else◌, arith, refl, sym, ap, subst, ◌∙◌}
-use Rattle.std.specs.Prelude.{IsTrue, IsFalse, AllPairs, Contains, filter, find, slice_index_or}
+use Rattle.std.proofs.Common.{◌≡◌, inl, inr, ℕ, zero, suc, ◌<◌, ◌==◌, Bool, true, false, ◌&&◌, ◌||◌, not, List, [], ◌∷◌, length, if◌then◌else◌, arith, refl, sym, ap, subst, ◌∙◌}
+use Rattle.std.specs.Prelude.{IsTrue, IsFalse, Contains, filter, slice_index_or}
 use Rattle.std.specs.List.{list_any}
-use Rattle.std.proofs.lemmas.Bool.{eqb-true, eq-eqb, ne_eqb}
+use Rattle.std.proofs.lemmas.Bool.{eqb-true, eq-eqb}
 use Rattle.lvm_num.specs.declared.descriptor.PvRow.{PvRow}
 use Rattle.lvm_num.specs.declared.descriptor.Descriptor.{Descriptor}
 use Rattle.lvm_num.specs.declared.place.Pp.{Pp}
@@ -11,7 +11,7 @@ use Rattle.lvm_num.specs.declared.status.StatusRow.{StatusRow}
 use Rattle.lvm_num.specs.Bits.{has_bit}
 use Rattle.lvm_num.specs.Descriptor.{is_member}
 use Rattle.lvm_num.specs.Status.{calls_stale, calls_missing}
-use Rattle.lvm_num.proofs.Booleans.{and_false, and_true}
+use Rattle.lvm_num.proofs.Booleans.{and_false}
 use Rattle.lvm_num.proofs.AmongLemmas.{one_any}
 use Rattle.lvm_kept.specs.Group.{IsOneOf}
 use Rattle.lvm_commit.proofs.AmongLemmas.{contains}
@@ -62,65 +62,6 @@ not_leaving disks d disk is = not_true (is_in disks disk) (both (is_member d dis
 
 pub left_out : (disks : List ℕ) (d : Descriptor) (disk : ℕ) → IsTrue (is_in disks disk) → IsFalse (is_member (reduced disks d) disk)
 left_out disks d disk leaves = member_reduced disks d disk ∙ ap (λ (b : Bool). is_member d disk && not b) leaves ∙ and_false (is_member d disk)
-
--- ---- how many may be named
-
-length_kept : (test : PvRow → Bool) (rows : List PvRow) → length (filter test rows) ≤ length rows
-length_kept test [] = omega arith
-length_kept test (row ∷ rows) = by (test row)
-  where
-    by : (b : Bool) → length (if b then row ∷ filter test rows else filter test rows) ≤ length (row ∷ rows)
-    by true = omega (arith, length_kept test rows)
-    by false = omega (arith, length_kept test rows)
-
--- with one taken out there is one less, at least
-one_out : (x : ℕ) (rows : List PvRow) → list_any (has x) rows ≡ true → length (filter (stays (x ∷ [])) rows) + 1 ≤ length rows
-one_out x [] is = absurd (cc is)
-one_out x (row ∷ rows) is = by (row.disk == x) is (one_out x rows)
-  where
-    by : (b : Bool) → b || list_any (has x) rows ≡ true → (list_any (has x) rows ≡ true → length (filter (stays (x ∷ [])) rows) + 1 ≤ length rows)
-        → length (if not (b || false) then row ∷ filter (stays (x ∷ [])) rows else filter (stays (x ∷ [])) rows) + 1 ≤ length (row ∷ rows)
-    by true some rest = omega (arith, length_kept (stays (x ∷ [])) rows)
-    by false some rest = omega (arith, rest some)
-
--- those that are on other disks are found among the others
-still_named : (x : ℕ) (rows : List PvRow) (disks : List ℕ) → ((k e : ℕ) → k < length disks → x ≢ get_or disks k e)
-    → find (λ (y : ℕ). not (list_any (has y) rows)) disks ≡ None → find (λ (y : ℕ). not (list_any (has y) (filter (stays (x ∷ [])) rows))) disks ≡ None
-still_named x rows [] apart none = refl
-still_named x rows (y ∷ disks) apart none = by (list_any (has y) rows) refl none
-  where
-    other : (y == x) ≡ false
-    other = ne_eqb y x (λ e. apart zero y (omega arith) (sym e))
-
-    kept : list_any (has y) (filter (stays (x ∷ [])) rows) ≡ list_any (has y) rows
-    kept = member_filtered (x ∷ []) rows y ∙ ap (λ (b : Bool). list_any (has y) rows && not (b || false)) other ∙ and_true (list_any (has y) rows)
-
-    rest : find (λ (z : ℕ). not (list_any (has z) rows)) disks ≡ None → find (λ (z : ℕ). not (list_any (has z) (filter (stays (x ∷ [])) rows))) disks ≡ None
-    rest = still_named x rows disks (λ k e less. apart (suc k) e (omega (arith, less)))
-
-    abbrev_find : (b : Bool) → list_any (has y) (filter (stays (x ∷ [])) rows) ≡ b
-        → (if not (list_any (has y) (filter (stays (x ∷ [])) rows)) then Some y else find (λ (z : ℕ). not (list_any (has z) (filter (stays (x ∷ [])) rows))) disks)
-        ≡ (if not b then Some y else find (λ (z : ℕ). not (list_any (has z) (filter (stays (x ∷ [])) rows))) disks)
-    abbrev_find b is = ap (λ (t : Bool). if not t then Some y else find (λ (z : ℕ). not (list_any (has z) (filter (stays (x ∷ [])) rows))) disks) is
-
-    by : (b : Bool) → list_any (has y) rows ≡ b → (if not b then Some y else find (λ (z : ℕ). not (list_any (has z) rows)) disks) ≡ None
-        → (if not (list_any (has y) (filter (stays (x ∷ [])) rows)) then Some y else find (λ (z : ℕ). not (list_any (has z) (filter (stays (x ∷ [])) rows))) disks) ≡ None
-    by true is left = abbrev_find true (kept ∙ is) ∙ rest left
-    by false is left = absurd (cc left)
-
--- members that differ are no more than there are
-pub named_are_few : (disks : List ℕ) (rows : List PvRow) → AllPairs (λ (a b : ℕ). a ≢ b) disks → find (λ (y : ℕ). not (list_any (has y) rows)) disks ≡ None → length disks ≤ length rows
-named_are_few [] rows differ none = omega arith
-named_are_few (x ∷ disks) rows differ none = by (list_any (has x) rows) refl none
-  where
-    tail : AllPairs (λ (a b : ℕ). a ≢ b) disks
-    tail i j e less within = differ (suc i) (suc j) e (omega (arith, less)) (omega (arith, within))
-
-    by : (b : Bool) → list_any (has x) rows ≡ b → (if not b then Some x else find (λ (y : ℕ). not (list_any (has y) rows)) disks) ≡ None → length (x ∷ disks) ≤ length rows
-    by true is left =
-        let rest = named_are_few disks (filter (stays (x ∷ [])) rows) tail (still_named x rows disks (λ k e less. differ zero (suc k) e (omega (arith, less)) (omega (arith, less))) left) in
-        omega (arith, one_out x rows is, rest)
-    by false is left = absurd (cc left)
 
 -- ---- those that are contained
 

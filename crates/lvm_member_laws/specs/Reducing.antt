@@ -1,5 +1,5 @@
 -- Over disks that leave a group, by the contract of `reducevg`: what stands on the disks goes on to stand, and what a later varyon finds.
-use Rattle.std.specs.Prelude.{◌≡◌, ◌≢◌, ◌⊎◌, ℕ, List, [], AllPairs, Result, Ok, IsTrue, IsFalse}
+use Rattle.std.specs.Prelude.{◌≡◌, ◌⊎◌, ℕ, List, [], Result, Ok, IsTrue, IsFalse}
 use Rattle.lvm_num.specs.declared.descriptor.Descriptor.{Descriptor}
 use Rattle.lvm_num.specs.Descriptor.{is_member}
 use Rattle.lvm_vol.specs.Facts.{Fact}
@@ -19,7 +19,6 @@ use Rattle.lvm_tie_commands.specs.Serving.{MayServeWith}
 
 -- what the contract of `reducevg` says of these disks, whatever it answers
 pub record IsReduced (disks : List ℕ) (before after : ℕ) (old new : State) (answer : Result (Unit {0}) ReduceFault) : Type 0 where
-  pub differ : AllPairs (λ (a b : ℕ). a ≢ b) disks
   pub began : IsSettled old.core
   pub on : IfOn answer (IsSettled new.core)
   pub still : IfOn answer (StillHeld old new)

@@ -124,7 +124,7 @@ module _ (name disks : List ℕ) (old new : ScriptState) (core : Core) (patience
   }
     where
       from : (end : State) (rest : ℕ) → HasComeTo disks patience rest mid end → BreaksFrom disks rest mid end left (commit.WentOff have total) → CauseOf read (refusal.WentOff have total) old new
-      from end rest came (inl (by, has, off)) = let its = lost_by by has have total end rest came off (counts_left true left old new leaves) in (its.0, inl (inl its.1))
+      from end rest came (inl between) = let its = lost_by between.by between.has have total end rest came between.off (counts_left true left old new leaves) in (its.0, inl (inl its.1))
       from end rest came (inr (next, way, few)) = let its = lacks next have total end rest came way few in (its.0, inr its.1)
 
       by : BreaksOff disks patience mid left (commit.WentOff have total) → CauseOf read (refusal.WentOff have total) old new

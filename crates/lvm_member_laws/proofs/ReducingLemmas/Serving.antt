@@ -1,6 +1,6 @@
 -- A session that disks have left is sound with requests.
-use Rattle.std.proofs.Common.{◌≡◌, ◌⊎◌, inl, inr, ⊎_elim, ℕ, ◌==◌, ◌-◌, ◌≤◌, ◌^◌, Bool, true, false, ◌&&◌, not, List, [], ◌∷◌, ◌++◌, length, Result, Ok, Err, refl, sym, ap, subst, ◌∙◌, arith}
-use Rattle.std.specs.Prelude.{◌≢◌, AllPairs, IsTrue, IsFalse, Contains}
+use Rattle.std.proofs.Common.{◌≡◌, ◌⊎◌, inl, inr, ⊎_elim, ℕ, ◌==◌, ◌-◌, ◌≤◌, ◌<◌, ◌^◌, Bool, true, false, ◌&&◌, not, List, [], ◌∷◌, ◌++◌, length, Result, Ok, Err, refl, sym, ap, subst, ◌∙◌, arith}
+use Rattle.std.specs.Prelude.{IsTrue, IsFalse, Contains}
 use Rattle.std.proofs.lemmas.Bool.{or_right}
 use Rattle.lvm_num.specs.declared.descriptor.Descriptor.{Descriptor}
 use Rattle.lvm_num.specs.declared.descriptor.PvRow.{PvRow}
@@ -39,14 +39,14 @@ use Rattle.lvm_member_plan.specs.declared.fault.ReduceFault.TheVariants as fault
 use Rattle.lvm_reduce.specs.Answers.{HasReduced, IfOn}
 use Rattle.lvm_member_plan.specs.Descriptors.{IsReducedBy, reduced}
 use Rattle.lvm_member_plan.specs.Refusals.{MayReduce}
-use Rattle.lvm_reduce.specs.Answers.{with_removed}
+use Rattle.lvm_member_steps.specs.Steps.{with_removed}
 use Rattle.lvm_handover.specs.Serving.{GoesOnFrom}
 use Rattle.lvm_handover.proofs.ServingLemmas.Serving.{other_members_serve}
 use Rattle.lvm_handover.proofs.ServingLemmas.Volumes.{found, had_fresh, its_row, none_before}
 use Rattle.lvm_tie_commands.specs.Serving.{MayServeWith}
 use Rattle.lvm_tie_commands.proofs.ServingLemmas.More.{refused}
 use Rattle.lvm_member_laws.specs.Reducing.{IsReduced, ReduceServes}
-use Rattle.lvm_member_laws.proofs.Rows.{contained_is, kept_contained, missing_has_row, named_are_few, not_leaving, stale_has_row, was_member}
+use Rattle.lvm_member_laws.proofs.Rows.{contained_is, kept_contained, missing_has_row, not_leaving, stale_has_row, was_member}
 
 -- so many members a group has at most
 at_most_128 : (big : Bool) → most_members big ≤ 128
@@ -58,7 +58,7 @@ ordered_removed : (disks : List ℕ) (log : Log) → Ordered log.run [] log.fact
 ordered_removed [] log ordered = ordered
 ordered_removed (x ∷ disks) log ordered = ordered_removed disks (with_fact log (Removed (Disk x))) (ordered-push log.run [] log.facts (Removed (Disk x)) ordered tt)
 
-module _ (disks : List ℕ) (differ : AllPairs (λ (a b : ℕ). a ≢ b) disks) (before after : ℕ) (old new : State) (sound : IsSound old) (began : IsSettled old.core) (on : IsSettled new.core) (still : StillHeld old new) (keeps : KeepsFresh old new)
+module _ (disks : List ℕ) (before after : ℕ) (old new : State) (sound : IsSound old) (began : IsSettled old.core) (on : IsSettled new.core) (still : StillHeld old new) (keeps : KeepsFresh old new)
     (leaves : ChangeLeaves (IsReducedBy disks old.core.descriptor) [] disks before after old new) (may : MayReduce disks old.core) (done : HasReduced disks old new) where
   abbrev was : Descriptor
   was = old.core.descriptor
@@ -158,7 +158,7 @@ module _ (disks : List ℕ) (differ : AllPairs (λ (a b : ℕ). a ≢ b) disks) 
       numbers =
           let many = many_bound old.core sound.fitting.valid sound.fitting.group in
           let most = leaves.numbers.most in
-          let few : length disks ≤ length was.pvs = named_are_few disks was.pvs differ may.free.members in
+          let few : length disks < length was.pvs = may.few in
           let all : length was.pvs ≤ most_members was.big = sound.fitting.valid.head.members in
           let most_of : most_members was.big ≤ 128 = at_most_128 was.big in
           let left : 65536 ≤ 2 ^ 32 - 1 - old.core.status.stamp.seq = may.room.numbers in
@@ -182,7 +182,7 @@ module _ (disks : List ℕ) (differ : AllPairs (λ (a b : ℕ). a ≢ b) disks) 
   )
 
 pub reduce_serves : ReduceServes
-reduce_serves disks before after old new (Ok done) sound c = reduced_serves disks c.differ before after old new sound c.began c.on c.still c.fresh c.leaves c.gives.0 c.gives.1
+reduce_serves disks before after old new (Ok done) sound c = reduced_serves disks before after old new sound c.began c.on c.still c.fresh c.leaves c.gives.0 c.gives.1
 reduce_serves disks before after old new (Err fault.Dark) sound c = tt
 reduce_serves disks before after old new (Err (fault.WentOff have total)) sound c = tt
 reduce_serves disks before after old new (Err fault.Stuck) sound c = tt

@@ -13,8 +13,8 @@ use Rattle.lvm_core.specs.Committing.{HasGoneDark, IsLeftOut}
 use Rattle.lvm_core.specs.Sound.{HasNoneOpen}
 use Rattle.lvm_member_plan.specs.declared.fault.ReduceFault.{ReduceFault}
 use Rattle.lvm_member_plan.specs.declared.fault.ReduceFault.TheVariants as fault
-use Rattle.lvm_reduce.specs.Answers.{IsReduceRefused, ReduceGives, is_over, with_removed}
-use Rattle.lvm_member_steps.specs.Steps.{BreaksFrom, BreaksOff, HasComeTo}
+use Rattle.lvm_reduce.specs.Answers.{IsReduceRefused, ReduceGives, is_over}
+use Rattle.lvm_member_steps.specs.Steps.{BreaksFrom, BreaksOff, HasComeTo, with_removed}
 use Rattle.lvm_group_lines.proofs.FactsLemmas.{bears_given_up}
 use Rattle.lvm_volume_lines.proofs.passed.GroupLines.{Bears, bears_cut}
 use Rattle.lvm_volume_lines.proofs.ChangingLemmas.Giving.{cut_entered}
@@ -80,9 +80,9 @@ module _ (disks : List ℕ) (patience : ℕ) (old new : State) (on : old.core.po
   }
 
   off_from : (have total : ℕ) (left : ℕ) (mid : State) → HasComeTo disks patience left old mid → BreaksFrom disks left old mid new (commit.WentOff have total) → IsKnownOfReduce old new (Err (fault.WentOff have total))
-  off_from have total left mid come (inl (by, has, off)) = record {
-    facts = off.ready;
-    enters = OnlyRemoved come.entered (ap (λ (c : Core). c.history) off.is ∙ come.history);
+  off_from have total left mid come (inl between) = record {
+    facts = between.off.ready;
+    enters = OnlyRemoved come.entered (ap (λ (c : Core). c.history) between.off.is ∙ come.history);
     rows = λ goes. absurd (cc goes);
   }
   off_from have total left mid come (inr (next, way, few)) = record {

@@ -26,7 +26,6 @@ after_reduce-requires-clause-may g c =
     if_on c.reducevg-driver.result.answer (MayServeWith [] left)
     (reduce_serves c.args.disks.now c.args.patience.now.left c.reducevg-driver.new.patience.left mid left c.reducevg-driver.result.answer c.requires.sound
     (record {
-      differ = c.requires.differ;
       began = c.requires.settled;
       on = c.reducevg-driver.ensures.settled (record { on = c.requires.settled.power; requests = c.requires.settled.quiet.requests });
       still = c.reducevg-driver.ensures.held;
@@ -41,7 +40,6 @@ returns g c = record {
   left = c.reducevg-driver.result.driver;
   after = c.reducevg-driver.new.patience.left;
   reduced = record {
-    differ = c.requires.differ;
     began = c.requires.settled;
     on = c.reducevg-driver.ensures.settled (record { on = c.requires.settled.power; requests = c.requires.settled.quiet.requests });
     still = c.reducevg-driver.ensures.held;
