@@ -13,7 +13,7 @@ use Rattle.lvm_core.specs.Looking.{IsNumberOf}
 use Rattle.lvm_session.specs.Causes.{AnyFailedSince, was_usable}
 use Rattle.lvm_session.specs.Judging.{copies_in, is_missing}
 use Rattle.lvm_session.specs.State.{Core, State, is_there, state}
-use Rattle.lvm_member_plan.specs.Descriptors.{IsReducedBy}
+use Rattle.lvm_member_lines.specs.passed.MemberPlan.{IsReducedBy}
 use Rattle.lvm_volume_lines.specs.passed.KeepsEvents.{LostForFaults}
 use Rattle.lvm_num.specs.declared.descriptor.Descriptor.{Descriptor}
 use Rattle.lvm_num.specs.Descriptor.{is_member}

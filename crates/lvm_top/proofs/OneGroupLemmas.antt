@@ -44,8 +44,7 @@ use Rattle.lvm_top.proofs.LeavesLemmas.Quiet.{lit_nothing, quiet_nothing, stays_
 use Rattle.lvm_top.proofs.StandingLemmas.Volumes.{done_finds, found_before, idle_nothing, undrained_nothing}
 use Rattle.lvm_top.proofs.StandingLemmas.Copying.{fewer_id, more_id}
 use Rattle.lvm_top.proofs.StandingLemmas.Splitting.{split_id}
-use Rattle.lvm_member_plan.specs.Descriptors.{IsReducedBy}
-use Rattle.lvm_member_lines.specs.Reducing.{BusyReducevg, NoGroupForReducevg, NoMemoryForReducevg, ReducesGroup, ReducevgDoes, ReducevgFails, UndrainedReducevg}
+use Rattle.lvm_line.specs.passed.MemberLines.{BusyReducevg, IsReducedBy, NoGroupForReducevg, NoMemoryForReducevg, ReducesGroup, ReducevgDoes, ReducevgFails, UndrainedReducevg}
 use Rattle.lvm_top.proofs.StandingLemmas.Reducing.{reduced_id}
 use Rattle.lvm_top.proofs.StandingLemmas.Changing.{change_finds}
 use Rattle.lvm_top.proofs.StandingLemmas.Moving.{found_first, migrated_finds, own_moved}

@@ -23,7 +23,7 @@ use Rattle.lvm_line.specs.passed.MoveLines.{IsAsked, MayHaveMoved, PlannedMove, 
 use Rattle.lvm_line.specs.passed.GroupLines.{asked_for, IsAlone, IsBrokenOff, OfRequests, Role, IsAtRest, StandsBy, ScriptState, Reply}
 use Rattle.lvm_line.specs.passed.VolumeLines.{Drains, wanted}
 use Rattle.lvm_line.specs.passed.ReplyVariants as reply
-use Rattle.lvm_member_plan.specs.Descriptors.{IsReducedBy}
+use Rattle.lvm_line.specs.passed.MemberLines.{IsReducedBy}
 use Rattle.lvm_top.specs.Script.{Script, NoLine, NextLine, Ends, AtLine, InLine}
 use Rattle.lvm_volume_plan.specs.NewVolume.{without_volume}
 

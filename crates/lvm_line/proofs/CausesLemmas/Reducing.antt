@@ -17,12 +17,11 @@ use Rattle.lvm_session.specs.declared.open.Power.TheVariants as power
 use Rattle.lvm_session.specs.State.{Core, State, is_there}
 use Rattle.lvm_status.specs.Update.{members_there}
 use Rattle.lvm_core.specs.declared.fault.CommitFault.TheVariants as commit
-use Rattle.lvm_members.specs.passed.Turnover.{HasGoneOffBy}
-use Rattle.lvm_member_plan.specs.declared.fault.ReduceFault.{ReduceFault}
-use Rattle.lvm_member_plan.specs.declared.fault.ReduceFault.TheVariants as fault
-use Rattle.lvm_member_plan.specs.Descriptors.{IsReducedBy}
-use Rattle.lvm_member_steps.specs.Steps.{BreaksFrom, BreaksOff, HasComeTo, WentOffAtOnce}
-use Rattle.lvm_reduce.specs.Answers.{ReduceGives, ends_session}
+use Rattle.lvm_volume_lines.specs.passed.Members.{HasGoneOffBy}
+use Rattle.lvm_member_lines.specs.passed.MemberPlan.{IsReducedBy, ReduceFault}
+use Rattle.lvm_member_lines.specs.passed.MemberSteps.{BreaksFrom, BreaksOff, HasComeTo, WentOffAtOnce}
+use Rattle.lvm_member_lines.specs.passed.Reduce.{ReduceGives, ends_session}
+use Rattle.lvm_member_lines.specs.passed.ReduceFaultVariants as fault
 use Rattle.lvm_volume_lines.specs.passed.GroupLines.{Refusal, ScriptState, patience_of_line}
 use Rattle.lvm_volume_lines.specs.passed.RefusalVariants as refusal
 use Rattle.lvm_volume_lines.specs.Volumes.{Drains, IsLeftEither}

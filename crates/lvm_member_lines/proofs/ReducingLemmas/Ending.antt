@@ -15,13 +15,13 @@ use Rattle.lvm_member_plan.specs.declared.fault.ReduceFault.{ReduceFault}
 use Rattle.lvm_member_plan.specs.declared.fault.ReduceFault.TheVariants as fault
 use Rattle.lvm_reduce.specs.Answers.{IfOn, ReduceGives, is_over}
 use Rattle.lvm_member_plan.specs.Descriptors.{IsReducedBy}
-use Rattle.lvm_range_lines.specs.passed.TieCommands.{IsLeftStandingSince, MayBeCommanded}
-use Rattle.lvm_range_lines.specs.passed.Volumes.{StillHeld}
-use Rattle.lvm_range_lines.specs.passed.Posts.{AreAnswered}
-use Rattle.lvm_range_lines.specs.passed.GroupLines.{EndsUnasked, most_refusals, patience_of_line, Role, IsBetweenStage, IsFittingStage, open_in, session_in, shelf_in, history_in, state_in, ScriptState, without_facts, Reply, Stage}
-use Rattle.lvm_range_lines.specs.passed.RefusalVariants as refusal
-use Rattle.lvm_range_lines.specs.passed.ReplyVariants as reply
-use Rattle.lvm_range_lines.proofs.passed.GroupLines.{answered_bears, landed_bears}
+use Rattle.lvm_volume_lines.specs.passed.TieCommands.{IsLeftStandingSince, MayBeCommanded}
+use Rattle.lvm_volume_lines.specs.passed.Volumes.{StillHeld}
+use Rattle.lvm_volume_lines.specs.passed.Posts.{AreAnswered}
+use Rattle.lvm_volume_lines.specs.passed.GroupLines.{EndsUnasked, most_refusals, patience_of_line, Role, IsBetweenStage, IsFittingStage, open_in, session_in, shelf_in, history_in, state_in, ScriptState, without_facts, Reply, Stage}
+use Rattle.lvm_volume_lines.specs.passed.RefusalVariants as refusal
+use Rattle.lvm_volume_lines.specs.passed.ReplyVariants as reply
+use Rattle.lvm_volume_lines.proofs.passed.GroupLines.{answered_bears, landed_bears}
 use Rattle.lvm_volume_lines.specs.Changing.{IsChangeDone}
 use Rattle.lvm_volume_lines.specs.Commands.{HasRested, IsLeftAs}
 use Rattle.lvm_volume_lines.proofs.Carrying.{IsCarried, at_mid, carried_ends, finds_no_more, left_either}

@@ -15,8 +15,7 @@ use Rattle.lvm_member_plan.specs.declared.fault.ReduceFault.{ReduceFault}
 use Rattle.lvm_member_plan.specs.declared.fault.ReduceFault.TheVariants as fault
 use Rattle.lvm_reduce.specs.Answers.{IsReduceRefused, ReduceGives, is_over}
 use Rattle.lvm_member_steps.specs.Steps.{BreaksFrom, BreaksOff, HasComeTo, with_removed}
-use Rattle.lvm_group_lines.proofs.FactsLemmas.{bears_given_up}
-use Rattle.lvm_volume_lines.proofs.passed.GroupLines.{Bears, bears_cut}
+use Rattle.lvm_volume_lines.proofs.passed.GroupLines.{Bears, bears_cut, bears_given_up}
 use Rattle.lvm_volume_lines.proofs.ChangingLemmas.Giving.{cut_entered}
 use Rattle.lvm_volume_lines.proofs.Ending.{KeepsRows}
 

@@ -39,8 +39,7 @@ use Rattle.lvm_top.specs.Standing.{IsToCommit, MayMoveCopies, StandsForMoves, St
 use Rattle.lvm_top.proofs.StandingLemmas.Volumes.{held_mid}
 use Rattle.lvm_top.proofs.StandingLemmas.Copying.{fewer_id, more_id}
 use Rattle.lvm_top.proofs.StandingLemmas.Splitting.{split_id}
-use Rattle.lvm_member_plan.specs.Descriptors.{IsReducedBy}
-use Rattle.lvm_member_lines.specs.Reducing.{BusyReducevg, NoGroupForReducevg, NoMemoryForReducevg, ReducesGroup, ReducevgFails, UndrainedReducevg}
+use Rattle.lvm_line.specs.passed.MemberLines.{BusyReducevg, IsReducedBy, NoGroupForReducevg, NoMemoryForReducevg, ReducesGroup, ReducevgFails, UndrainedReducevg}
 use Rattle.lvm_top.proofs.StandingLemmas.Reducing.{reduced_id}
 use Rattle.lvm_top.proofs.StandingLemmas.Changing.{big_id}
 use Rattle.lvm_top.proofs.StandingLemmas.Moving.{empty_only, end_id, only_end, own_moved, session_on}

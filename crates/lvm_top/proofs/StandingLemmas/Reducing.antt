@@ -5,11 +5,8 @@ use Rattle.lvm_num.specs.declared.descriptor.Descriptor.{Descriptor}
 use Rattle.lvm_parse.specs.declared.command.Command.TheVariants as command
 use Rattle.lvm_core.specs.Leaves.{MayBeFound}
 use Rattle.lvm_session.specs.State.{Core, State}
-use Rattle.lvm_member_plan.specs.declared.fault.ReduceFault.{ReduceFault}
-use Rattle.lvm_member_plan.specs.declared.fault.ReduceFault.TheVariants as fault
-use Rattle.lvm_member_plan.specs.Descriptors.{IsReducedBy}
-use Rattle.lvm_reduce.specs.Answers.{ReduceGives, ends_session}
-use Rattle.lvm_member_lines.specs.Reducing.{BusyReducevg, NoGroupForReducevg, NoMemoryForReducevg, ReducesGroup, ReducevgDoes, ReducevgEnds, ReducevgFails, UndrainedReducevg, reduce_refusal}
+use Rattle.lvm_line.specs.passed.MemberLines.{BusyReducevg, ends_session, IsReducedBy, NoGroupForReducevg, NoMemoryForReducevg, reduce_refusal, ReduceFault, ReduceGives, ReducesGroup, ReducevgDoes, ReducevgEnds, ReducevgFails, UndrainedReducevg}
+use Rattle.lvm_line.specs.passed.ReduceFaultVariants as fault
 use Rattle.lvm_line.specs.passed.GroupLines.{IsBetween, IsBrokenOff, OfGroup, ScriptState, Reply}
 use Rattle.lvm_line.specs.passed.ReplyVariants as reply
 use Rattle.lvm_line.specs.passed.VolumeLines.{Drains}

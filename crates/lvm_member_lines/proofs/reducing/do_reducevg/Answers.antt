@@ -1,7 +1,7 @@
 use Rattle.std.proofs.Common.{◌≡◌, ◌≤◌, ◌∙◌, ℕ, refl, sym, ap, subst, arith}
 use Rattle.lvm_core.specs.State.{state_of}
 use Rattle.lvm_member_laws.proofs.ReducingLemmas.Going.{reduce_goes_on}
-use Rattle.lvm_range_lines.specs.passed.GroupLines.{EndsUnasked, OfGroup, IsOn, open_in, session_in, Refusal, Reply, Stage}
+use Rattle.lvm_volume_lines.specs.passed.GroupLines.{EndsUnasked, OfGroup, IsOn, open_in, session_in, Refusal, Reply, Stage}
 use Rattle.lvm_volume_lines.specs.passed.RefusalVariants as refusal
 use Rattle.lvm_volume_lines.specs.passed.ReplyVariants as reply
 use Rattle.lvm_volume_lines.proofs.passed.GroupLines.{refused_ends}
