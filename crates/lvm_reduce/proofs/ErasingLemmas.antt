@@ -15,7 +15,8 @@ use Rattle.lvm_num.specs.Descriptor.{is_member}
 use Rattle.lvm_num.specs.DescriptorBytes.{descriptor_of}
 use Rattle.lvm_num.specs.StatusBytes.{status_of}
 use Rattle.lvm_num.specs.Geometry.{sectors_needed}
-use Rattle.lvm_num.specs.Record.{kind_magic, slot_start, Stamped, stamp_lt, stamp_of}
+use Rattle.lvm_num.specs.Torn.{stamp_of}
+use Rattle.lvm_num.specs.Record.{kind_magic, slot_start, Stamped, stamp_lt}
 use Rattle.lvm_num.specs.Votes.{CanWrite}
 use Rattle.lvm_num.proofs.Booleans.{clash, same_itself}
 use Rattle.lvm_rec.specs.declared.homes.Homes.{Homes}
