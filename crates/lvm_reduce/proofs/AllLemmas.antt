@@ -61,7 +61,7 @@ module _ (y m p q : ℕ) (N : Descriptor → Type 0) (E : List ℕ) (a b : State
   zero_alone : (s : ℕ) (value : Sector) → IsOfChange N [] E a b y s value → value ≡ zero_sector
   zero_alone s value (inl is) = absurd (clash (there a.core.status y) (is.2.targets y is.2.its.target) (no_target a group y stranger))
   zero_alone s value (inr (inl is)) = absurd (clash (there a.core.status y) (is.2.2.targets y is.2.2.its.target) (no_target a group y stranger))
-  zero_alone s value (inr (inr (on, slot, few, same, place, zero))) = zero
+  zero_alone s value (inr (inr (on, (slot, few, (same, place, zero))))) = zero
 
   pub erased_on : IsErased y a.device → IsErased y b.device
   erased_on erased slot two = if_told b.device.media (λ (media : Media). media y (slot_start kind.Descriptor slot) ≡ zero_sector) (λ n is.
