@@ -2,7 +2,7 @@
 use Rattle.std.proofs.Common.{◌≡◌, ◌⊎◌, inl, inr, ⊎_elim, ℕ, ◌+◌, ◌*◌, ◌<◌, ◌≤◌, Bool, true, false, ◌&&◌, ◌||◌, not, List, [], ◌∷◌, ◌++◌, length, map, filter, Option, Some, None, refl, sym, ◌∙◌, ap, subst, arith, append_assoc}
 use Rattle.std.specs.Prelude.{◌==◌, IsTrue, IsFalse, Result, Ok, Err}
 use Rattle.std.proofs.lemmas.Bool.{eqb-true, eq-eqb, false≢true}
-use Rattle.std.proofs.lemmas.List.{append-nil}
+use Rattle.std.proofs.lemmas.List.{append-nil, length-append}
 use Rattle.std.proofs.lemmas.List.Sums.{sum_by-append}
 use Rattle.lvm_num.specs.declared.record.Kind.TheVariants as kind
 use Rattle.lvm_num.specs.declared.place.Pp.{Pp}
@@ -50,7 +50,7 @@ use Rattle.lvm_reduce.specs.declared.departure.Departure.{Departure}
 use Rattle.lvm_reduce.specs.Erasing.{IsErasedOrFailed}
 use Rattle.lvm_reduce.specs.Departures.{AreDepartures, IsDeparture, EntersOrNot, IsEntered, IsNotEntered, HasDeparted, DepartEnds, HasNumbersFor, disks_of}
 use Rattle.lvm_reduce.specs.Answers.{HasEntered, HasReduced, HasLeft, LeaveEnds, IsPartOf}
-use Rattle.lvm_reduce.proofs.ChangesLemmas.{numbers_left, there_or_lost}
+use Rattle.lvm_reduce.proofs.ChangesLemmas.{next_member, numbers_left, there_or_lost}
 use Rattle.lvm_reduce.proofs.ListLemmas.{notes_more, notes_none, part_less, part_more, reduced_more}
 use Rattle.lvm_reduce.proofs.MarkedLemmas.{no_target}
 
@@ -61,7 +61,7 @@ module _ (y m p q : ℕ) (N : Descriptor → Type 0) (E : List ℕ) (a b : State
   zero_alone : (s : ℕ) (value : Sector) → IsOfChange N [] E a b y s value → value ≡ zero_sector
   zero_alone s value (inl is) = absurd (clash (there a.core.status y) (is.2.targets y is.2.its.target) (no_target a group y stranger))
   zero_alone s value (inr (inl is)) = absurd (clash (there a.core.status y) (is.2.2.targets y is.2.2.its.target) (no_target a group y stranger))
-  zero_alone s value (inr (inr (on, slot, few, same, place, zero))) = zero
+  zero_alone s value (inr (inr (on, (slot, few, (same, place, zero))))) = zero
 
   pub erased_on : IsErased y a.device → IsErased y b.device
   erased_on erased slot two = if_told b.device.media (λ (media : Media). media y (slot_start kind.Descriptor slot) ≡ zero_sector) (λ n is.
@@ -132,6 +132,10 @@ some_so_far gone old now left =
 
 -- ---- one more
 
+record Entering (all : List ℕ) (old new : State) : Type 0 where
+  disks : List ℕ
+  enters : HasEntered all disks old new
+
 module _ (gone : List ℕ) (x : ℕ) (out : Leaving) (out_is : out.disk ≡ x) (m p q r : ℕ) (M N : Descriptor → Type 0) (D E : List ℕ) (old now new : State) (basis : Basis gone old now) (group : AreOfOneGroup now.core) (member : IsTrue (is_member now.core.descriptor x))
     (first : LeavesWithin m M [] D p q old now) (then : LeavesWithin 6 N [] E q r now new) (departed : HasDeparted x (Some out) now new)
     (origin_is : IsRerowed (reduced (x ∷ []) now.core.descriptor) old.core.origin.table out.origin) where
@@ -170,11 +174,7 @@ module _ (gone : List ℕ) (x : ℕ) (out : Leaving) (out_is : out.disk ≡ x) (
   others_before : (y : ℕ) → IsTrue (is_in gone y) → IsTrue (is_there old.core y) → IsFalse (is_in basis.entered y) → Rose (old.device.counts.faults y) (new.device.counts.faults y)
   others_before y on was off = rose_on (old.device.counts.faults y) (now.device.counts.faults y) (new.device.counts.faults y) (basis.enters.others y on was off) (then.falls.faults y)
 
-  record Entering : Type 0 where
-    disks : List ℕ
-    enters : HasEntered all disks old new
-
-  entering : EntersOrNot x now new → Entering
+  entering : EntersOrNot x now new → Entering all old new
   entering (IsEntered was history erased) = record {
     disks = basis.entered ++ x ∷ [];
     enters = record {
@@ -355,4 +355,84 @@ module _ (disks : List ℕ) (p q : ℕ) (old now : State) (x : Departure) (rest 
         apart k (inr its) row lp pp one copy = none_on row lp pp (subst (λ (rows : List LvRow). IsOneOf rows row) (ap (λ (g : Descriptor). g.lvs) its.is) one) copy
 
     pub way_leaves : (most : ℕ) → length disks ≡ most → LeavesWithin (6 * most) N [] disks p r old new
-    way_leaves most all = within_more N N disks disks (λ k is. is) (λ y is. is) (6 * length way.gone + 6) (6 * most) p r (let count = ap length way.all in let sum = Rattle.std.proofs.lemmas.List.length-append way.gone (disks_of (x ∷ rest)) in omega (arith, count, sum, all)) old new so_far
+    way_leaves most all = within_more N N disks disks (λ k is. is) (λ y is. is) (6 * length way.gone + 6) (6 * most) p r (let count = ap length way.all in let sum = length-append way.gone (disks_of (x ∷ rest)) in omega (arith, count, sum, all)) old new so_far
+
+    -- one more has left
+    pub way_next : DepartEnds x.disk x.out.leaving q now new (Ok tt) → IsOnItsWay disks p r old new rest
+    way_next departed = record {
+      gone = way.gone ++ x.disk ∷ [];
+      all = way.all ∙ sym (append_assoc way.gone (x.disk ∷ []) (disks_of rest));
+      come = come_then (is_there now.core) (is_there old.core) (x.disk ∷ []) disks named (λ y is was. way.come.before y was) p q old now way.come r new (departed_comes departed);
+      stands = inr (left departed);
+      leaves = subst (λ (n : ℕ). LeavesWithin n N [] disks p r old new) (let sum = length-append way.gone (x.disk ∷ []) in omega (arith, sum)) so_far;
+      settled = departed.settled;
+      group = departed.group;
+      ready = departed.ready;
+      numbers = numbers_left 2 (2 * length rest) (2 * length (x ∷ rest)) now new leaves.numbers (omega arith) way.numbers;
+      spare = spare_after departed.enters;
+      depart = subst (λ (g : Descriptor). AreDepartures old.core.origin.table g rest) (sym (ap (λ (k : Core). k.descriptor) departed.is)) way.depart.1;
+    }
+      where
+        planned : IsDeparture old.core.origin.table now.core.descriptor x
+        planned = way.depart.0
+
+        as_some : DepartEnds x.disk x.out.leaving q now new (Ok tt) → HasDeparted x.disk (Some planned.out.leaving) now new
+        as_some departed = subst (λ (o : Option Leaving). HasDeparted x.disk o now new) planned.out.leaving_is departed
+
+        member : IsTrue (is_member now.core.descriptor x.disk)
+        member = sym (next_member now.core.descriptor x.before planned.before x.disk) ∙ planned.out.member
+
+        left : DepartEnds x.disk x.out.leaving q now new (Ok tt) → HasLeft (way.gone ++ x.disk ∷ []) old new
+        left departed = left_more way.gone x.disk planned.out.leaving planned.out.disk_is (6 * length way.gone) p q r N (IsReducedBy (x.disk ∷ []) now.core.descriptor) disks (x.disk ∷ []) old now new basis way.group member way.leaves leaves (as_some departed) planned.origin_is
+
+        departed_comes : DepartEnds x.disk x.out.leaving q now new (Ok tt) → HasComeTo (x.disk ∷ []) q r now new
+        departed_comes done = record {
+          is = done.is ∙ ap (λ (k : Core). record now.core { descriptor = k.descriptor; status = k.status; homes = k.homes; cache = k.cache; origin = k.origin; history = k.history }) (sym done.is);
+          descriptor = inr (subst (IsReducedBy (x.disk ∷ []) now.core.descriptor) (sym (ap (λ (k : Core). k.descriptor) done.is)) (record {
+            gone = is_in (x.disk ∷ []);
+            among = λ y is. is;
+            is = refl;
+            valid = subst IsValid (ap (λ (k : Core). k.descriptor) done.is) done.group.valid;
+          }));
+          entered = entered_of done.enters;
+          among = among_of done.enters;
+          history = history_of done.enters;
+          before = done.before;
+          ready = done.ready;
+          cuts = done.cuts;
+          falls = leaves.falls;
+          spends = leaves.spends;
+        }
+          where
+            entered_of : EntersOrNot x.disk now new → List ℕ
+            entered_of (IsEntered was history erased) = x.disk ∷ []
+            entered_of (IsNotEntered history rose) = []
+
+            among_of : (its : EntersOrNot x.disk now new) (y : ℕ) → IsTrue (is_in (entered_of its) y) → IsTrue (is_in (x.disk ∷ []) y) × IsTrue (is_there now.core y)
+            among_of (IsEntered was history erased) y is = (is, subst (λ (n : ℕ). IsTrue (is_there now.core n)) (sym (eqb-true y x.disk (sym (or_false (y == x.disk)) ∙ is))) was)
+            among_of (IsNotEntered history rose) y is = absurd (false≢true is)
+
+            history_of : (its : EntersOrNot x.disk now new) → new.core.history ≡ with_removed (entered_of its) now.core.history
+            history_of (IsEntered was history erased) = history
+            history_of (IsNotEntered history rose) = history
+
+        spare_after : EntersOrNot x.disk now new → length rest ≤ spare_entries new.core.history
+        spare_after (IsEntered was history erased) = subst (λ (l : Log). length rest ≤ spare_entries l) (sym history) (spare_less (length rest) now.core.history (Removed (Disk x.disk)) refl (let all = way.spare in omega (arith, all)))
+        spare_after (IsNotEntered history rose) = subst (λ (l : Log). length rest ≤ spare_entries l) (sym history) (let all = way.spare in omega (arith, all))
+
+-- ---- all of them
+
+-- where none is left, all have left
+pub way_done : (disks : List ℕ) (p q : ℕ) (old now : State) (rest : List Departure) → IsOnItsWay disks p q old now rest → rest ≡ [] → 1 ≤ length disks → LeaveEnds disks p old now (Ok tt)
+way_done disks p q old now rest way none some = by way.stands
+  where
+    all : way.gone ≡ disks
+    all = sym (way.all ∙ ap (λ (l : List Departure). way.gone ++ disks_of l) none ∙ append-nil way.gone)
+
+    by : ((way.gone ≡ []) × (now ≡ old)) ⊎ HasLeft way.gone old now → HasLeft disks old now
+    by (inl (nobody, same)) = absurd (let length_is : length disks ≡ 0 = ap length (sym all ∙ nobody) in omega (arith, length_is, some))
+    by (inr left) = subst (λ (l : List ℕ). HasLeft l old now) all left
+
+pub way_leaves_done : (disks : List ℕ) (p q : ℕ) (old now : State) (rest : List Departure) → IsOnItsWay disks p q old now rest → (most : ℕ) → length disks ≡ most → LeavesWithin (6 * most) (IsReducedBy disks old.core.descriptor) [] disks p q old now
+way_leaves_done disks p q old now rest way most all = within_more (IsReducedBy disks old.core.descriptor) (IsReducedBy disks old.core.descriptor) disks disks (λ k is. is) (λ y is. is) (6 * length way.gone) (6 * most) p q
+    (let count = ap length way.all in let sum = length-append way.gone (disks_of rest) in omega (arith, count, sum, all)) old now way.leaves

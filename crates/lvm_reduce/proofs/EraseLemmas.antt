@@ -18,7 +18,7 @@ use Rattle.lvm_transfer.specs.declared.moves.Moved.TheVariants as moved
 use Rattle.lvm_write.specs.Parts.{DoesPart, IfMoved}
 use Rattle.lvm_write.proofs.NextLemmas.{copy_is_placed, is_member_of}
 use Rattle.lvm_write.proofs.PartsLemmas.Transfers.{keeps_here, spends_none}
-use Rattle.lvm_erase.specs.Erasing.{ZeroesSlots, IsErased}
+use Rattle.lvm_erase.specs.Erasing.{ZeroesSlots, IsErased, ErasingShowsOne}
 use Rattle.lvm_session.specs.Dark.{all_dark}
 use Rattle.lvm_session.specs.State.{Core, State, is_there, moment_of}
 use Rattle.lvm_core.specs.declared.fault.CommitFault.{CommitFault}
@@ -69,7 +69,7 @@ no_copy_on disk d valid stranger row lp p one copy = by (p.disk == disk) refl
 
 -- ---- both
 
-module _ (disk older p q : ℕ) (old new : State) (answer : Result (Unit {0}) CommitFault) (settled : IsSettled old.core) (valid : IsValid old.core.descriptor) (stranger : is_member old.core.descriptor disk ≡ false)
+module _ (shows_one : ErasingShowsOne) (disk older p q : ℕ) (old new : State) (answer : Result (Unit {0}) CommitFault) (settled : IsSettled old.core) (valid : IsValid old.core.descriptor) (stranger : is_member old.core.descriptor disk ≡ false)
     (w : ErasesDisk disk older p q (as_raw disk old) new answer) where
   pub erase_keeps : EraseKeeps disk older p q old new
   erase_keeps = record {
@@ -77,8 +77,8 @@ module _ (disk older p q : ℕ) (old new : State) (answer : Result (Unit {0}) Co
         (λ k is. by_group k is)
         (λ d there. there) (λ erasable held. held) 0 0 p p q (λ erasable held. erasable)
         (as_if (IsErasable disk older old) 0 NoDescriptor (disk ∷ []) p p old (as_raw disk old) (entry_leaves disk p old))
-        (erase_leaves disk older p q (as_raw disk old) new answer w (record { requests = settled.quiet.requests; copy = settled.quiet.copy }) settled.votes stranger old.core.history.facts refl);
-    held = λ erasable held. erase_held disk older p q (as_raw disk old) new answer w (record { requests = settled.quiet.requests; copy = settled.quiet.copy }) settled.votes stranger old.core.history.facts refl erasable held;
+        (erase_leaves shows_one disk older p q (as_raw disk old) new answer w (record { requests = settled.quiet.requests; copy = settled.quiet.copy }) settled.votes stranger old.core.history.facts refl);
+    held = λ erasable held. erase_held shows_one disk older p q (as_raw disk old) new answer w (record { requests = settled.quiet.requests; copy = settled.quiet.copy }) settled.votes stranger old.core.history.facts refl erasable held;
   }
     where
       by_group : (k : Descriptor) → (k ≡ old.core.descriptor) ⊎ NoDescriptor k → (row : LvRow) (lp : ℕ) (pp : Pp) → IsOneOf k.lvs row → IsOneOf (copies_of row lp) pp → IsFalse (is_in (disk ∷ []) pp.disk)

@@ -15,7 +15,8 @@ use Rattle.lvm_num.specs.Descriptor.{is_member}
 use Rattle.lvm_num.specs.DescriptorBytes.{descriptor_of}
 use Rattle.lvm_num.specs.StatusBytes.{status_of}
 use Rattle.lvm_num.specs.Geometry.{sectors_needed}
-use Rattle.lvm_num.specs.Record.{kind_magic, slot_start, Stamped, stamp_lt, stamp_of}
+use Rattle.lvm_num.specs.Torn.{stamp_of}
+use Rattle.lvm_num.specs.Record.{kind_magic, slot_start, Stamped, stamp_lt}
 use Rattle.lvm_num.specs.Votes.{CanWrite}
 use Rattle.lvm_num.proofs.Booleans.{clash, same_itself}
 use Rattle.lvm_rec.specs.declared.homes.Homes.{Homes}
@@ -33,8 +34,7 @@ use Rattle.lvm_kept.specs.Plans.{ChangesBy}
 use Rattle.lvm_kept.proofs.PlacesLemmas.{room-same}
 use Rattle.lvm_kept.proofs.CommittedLemmas.Finding.{images_within}
 use Rattle.lvm_steps.specs.Behind.{StampsBefore}
-use Rattle.lvm_erase.specs.Erasing.{ZeroesSlot, ZeroesSlots, ErasesTo, ErasesOne}
-use Rattle.lvm_erase.proofs.ShowingLemmas.{erasing_shows_one}
+use Rattle.lvm_erase.specs.Erasing.{ZeroesSlot, ZeroesSlots, ErasesTo, ErasesOne, ErasingShowsOne}
 use Rattle.lvm_commit.specs.Committed.{next_stamp, ShowsCommitted, HoldsCommitted}
 use Rattle.lvm_change_laws.specs.Committed.{MayErase}
 use Rattle.lvm_change_laws.proofs.ErasingLemmas.{erasing_keeps}
@@ -63,26 +63,23 @@ pub stamps_stay : (disk : ℕ) (stamp : Stamp) (a b : Image) → ChangesBy (Zero
 stamps_stay disk stamp a b by earlier k d slot room two part small magic = ⊎_elim
     (λ (same : b.sector d (slot_start k slot + part) ≡ a.sector d (slot_start k slot + part)).
     subst (λ (x : Sector). stamp_lt (stamp_of x) stamp ≡ true) (sym same) (earlier k d slot (sym (room-same a b by.same d) ∙ room) two part small (ap (take 2) (sym same) ∙ magic)))
-    (λ (it : ZeroesSlots disk d (slot_start k slot + part) (b.sector d (slot_start k slot + part))). absurd (no_magic k (ap (take 2) (sym it.2.2.2) ∙ magic)))
+    (λ (it : ZeroesSlots disk d (slot_start k slot + part) (b.sector d (slot_start k slot + part))). absurd (no_magic k (ap (take 2) (sym it.2.2) ∙ magic)))
     (by.each d (slot_start k slot + part))
 
 no_member_no_room : (c : Contents) (d : ℕ) (g : Descriptor) → is_member g d ≡ false → has_room c d g ≡ false
 no_member_no_room c d g none = less g.pvs none
   where
-    fails : (a b r : Bool) → a || r ≡ false → (r ≡ false → r ≡ false) → (a && b) || r ≡ false
-    fails true b r none rest = absurd (false≢true (sym none))
-    fails false b r none rest = none
-
     less : (rows : List PvRow) → list_any (λ (row : PvRow). row.disk == d) rows ≡ false → list_any (λ (row : PvRow). row.disk == d && nat_le (sectors_needed g.mib row.pps) (c.size d)) rows ≡ false
     less [] none = refl
-    less (row ∷ rows) none = by (row.disk == d) none
+    less (row ∷ rows) none = by (row.disk == d) none (less rows)
       where
         by : (t : Bool) → t || list_any (λ (r : PvRow). r.disk == d) rows ≡ false
+            → (list_any (λ (r : PvRow). r.disk == d) rows ≡ false → list_any (λ (r : PvRow). r.disk == d && nat_le (sectors_needed g.mib r.pps) (c.size d)) rows ≡ false)
             → (t && nat_le (sectors_needed g.mib row.pps) (c.size d)) || list_any (λ (r : PvRow). r.disk == d && nat_le (sectors_needed g.mib r.pps) (c.size d)) rows ≡ false
-        by true none = absurd (false≢true (sym none))
-        by false none = less rows none
+        by true none rest = absurd (false≢true (sym none))
+        by false none rest = rest none
 
-module _ (disk older : ℕ) (group : Descriptor) (a b : Image) (none : is_member group disk ≡ false) (shows_it : ShowsOlder a group.id disk older) (erases : ErasesTo disk older a b) where
+module _ (shows_one : ErasingShowsOne) (disk older : ℕ) (group : Descriptor) (a b : Image) (none : is_member group disk ≡ false) (shows_it : ShowsOlder a group.id disk older) (erases : ErasesTo disk older a b) where
   by : ChangesBy (ZeroesSlots disk) a b
   by = of erases
     where
@@ -94,14 +91,14 @@ module _ (disk older : ℕ) (group : Descriptor) (a b : Image) (none : is_member
       of (inr both) = both.0
 
   one : ErasesOne disk (contents_of a) (contents_of b)
-  one = erasing_shows_one disk older a b shows_it.older_is erases
+  one = shows_one disk older a b shows_it.older_is erases
 
   no_room : (c : Contents) → has_room c disk group ≡ false
   no_room c = no_member_no_room c disk group none
 
   -- another disk's sectors stay
   other_sectors : (d : ℕ) → (d ≡ disk → ⊥) → (s : ℕ) → b.sector d s ≡ a.sector d s
-  other_sectors d apart s = ⊎_elim (λ same. same) (λ (it : ZeroesSlots disk d s (b.sector d s)). absurd (apart it.2.2.0)) (by.each d s)
+  other_sectors d apart s = ⊎_elim (λ same. same) (λ (it : ZeroesSlots disk d s (b.sector d s)). absurd (apart it.2.0)) (by.each d s)
 
   other : (d : ℕ) → (d ≡ disk → ⊥) → (contents_of b).descriptor d ≡ (contents_of a).descriptor d
   other d apart = ⊎_elim (λ same. same) (λ (e : (d ≡ disk) × ((contents_of b).descriptor d ≡ None)). absurd (apart e.0)) (one.own d)

@@ -25,7 +25,7 @@ use Rattle.lvm_write.specs.Parts.{DoesPart}
 use Rattle.lvm_write.proofs.WrittenLemmas.Writing.{if_told, told_at, both_from}
 use Rattle.lvm_commit.specs.Committed.{HoldsCommitted}
 use Rattle.lvm_commit.specs.Settling.{SpendsNumbers, there}
-use Rattle.lvm_erase.specs.Erasing.{ZeroesSlots, ErasesTo, ErasesInOrder}
+use Rattle.lvm_erase.specs.Erasing.{ZeroesSlots, ErasesTo, ErasesInOrder, ErasingShowsOne}
 use Rattle.lvm_status.specs.Update.{Stored}
 use Rattle.lvm_session.specs.Dark.{all_dark}
 use Rattle.lvm_session.specs.Placed.{ArePlaced}
@@ -47,7 +47,7 @@ use Rattle.lvm_member_steps.specs.Steps.{LeavesIf}
 use Rattle.lvm_reduce.specs.Erasing.{ShowsOlder, IsErasable, GoesOnErased, ErasesDisk}
 use Rattle.lvm_reduce.proofs.ErasingLemmas.{erased_held, erased_finds, erased_kept, stamps_stay}
 
-module _ (disk older p q : ℕ) (old new : State) (answer : Result (Unit {0}) CommitFault) (w : ErasesDisk disk older p q old new answer) (open_none : HasNoneOpen old.core) (votes : CanWrite old.core.descriptor (is_there old.core))
+module _ (shows_one : ErasingShowsOne) (disk older p q : ℕ) (old new : State) (answer : Result (Unit {0}) CommitFault) (w : ErasesDisk disk older p q old new answer) (open_none : HasNoneOpen old.core) (votes : CanWrite old.core.descriptor (is_there old.core))
     (stranger : is_member old.core.descriptor disk ≡ false) (facts : List Fact) (raw : old.core.history.facts ≡ facts ++ Removed (Disk disk) ∷ []) where
   -- what holds of the session, by what it is once its transfers have ended
   erase_core : (P : Core → Type 0) → (P old.core → P (record old.core { pool = with_one_out old.core.pool })) → (P old.core → P (all_dark (record old.core { pool = with_one_out old.core.pool }))) → P old.core → P new.core
@@ -91,7 +91,7 @@ module _ (disk older p q : ℕ) (old new : State) (answer : Result (Unit {0}) Co
       let start = image_of old.device.sizes m in
       let all : past ++ old.core.history.facts ≡ (past ++ facts) ++ Removed (Disk disk) ∷ [] = ap (λ (l : List Fact). past ++ l) raw ∙ sym (append_assoc past facts (Removed (Disk disk) ∷ [])) in
       subst (λ (l : List Fact). Kept (contents_of image) l) (sym all)
-      (erased_kept disk older old.core.descriptor start image stranger (shows_at erasable m is) (differs m is d order image may) old.core.status.committed (is_there old.core) votes (past ++ facts)
+      (erased_kept shows_one disk older old.core.descriptor start image stranger (shows_at erasable m is) (differs m is d order image may) old.core.status.committed (is_there old.core) votes (past ++ facts)
       (holds_at held m is).shows
       (subst (λ (l : List Fact). Kept (contents_of start) l) all (kept start (media_may old.device m is))))
 
@@ -116,7 +116,7 @@ module _ (disk older p q : ℕ) (old new : State) (answer : Result (Unit {0}) Co
       (if_told new.device.media (λ media. HoldsCommitted (image_of new.device.sizes media) old.core.descriptor old.core.status.committed (is_there old.core) old.core.status.stamp old.core.homes)
       (λ n is.
       let from = back_of n is in
-      erased_held disk older old.core.descriptor (image_of old.device.sizes from.0) (image_of new.device.sizes n) stranger (shows_at erasable from.0 from.1)
+      erased_held shows_one disk older old.core.descriptor (image_of old.device.sizes from.0) (image_of new.device.sizes n) stranger (shows_at erasable from.0 from.1)
       (differs from.0 from.1 new.device (last-path w.order) (image_of new.device.sizes n) (media_may new.device n is)) old.core.status.committed (is_there old.core) votes
       old.core.status.stamp old.core.homes (holds_at held from.0 from.1)))
 
@@ -129,14 +129,14 @@ module _ (disk older p q : ℕ) (old new : State) (answer : Result (Unit {0}) Co
   -- ---- what is written
 
   its_zeros : (d s : ℕ) (value : Sector) → ZeroesSlots disk d s value → IsOfChange NoDescriptor [] (disk ∷ []) old new d s value
-  its_zeros d s value (slot, few, same, place, zero) = inr (inr (ap (λ (n : ℕ). (n == disk) || false) same ∙ here, (slot, few, refl, place, zero)))
+  its_zeros d s value (slot, few, (same, place, zero)) = inr (inr (ap (λ (n : ℕ). (n == disk) || false) same ∙ here, (slot, few, (refl, place, zero))))
     where
       here : (disk == disk) || false ≡ true
       here = ap (λ (b : Bool). b || false) (eq-eqb disk disk refl)
 
   erase_finds : IsErasable disk older old → IsHeld old.device old.core → FindsNothingNewOn old.device new.device
   erase_finds erasable held image may = if_told old.device.media (λ media. FindsNothingNew (contents_of (image_of old.device.sizes media)) (contents_of image)) (λ m is.
-      erased_finds disk older old.core.descriptor (image_of old.device.sizes m) image stranger (shows_at erasable m is) (differs m is new.device (last-path w.order) image may) old.core.status.committed (is_there old.core) votes
+      erased_finds shows_one disk older old.core.descriptor (image_of old.device.sizes m) image stranger (shows_at erasable m is) (differs m is new.device (last-path w.order) image may) old.core.status.committed (is_there old.core) votes
       (holds_at held m is).shows)
 
   either_right : (d : ℕ) → (d == disk) ≡ true → ((d == disk) || false) || is_there old.core d ≡ true

@@ -33,7 +33,7 @@ pub struct Mark {
 }
 
 /// The changes by which this member leaves the group.
-pub(crate) fn departure(
+pub(crate) fn plan_departure(
     alloc: Global,
     session: &Session,
     d: &Descriptor,

@@ -17,7 +17,7 @@ ghost use Rattle.lvm_reduce.specs.Erasing.{ErasesDisk, EraseEnds, EraseKeeps};
 use lvm_core::below::Patience;
 use lvm_core::{CommandDriver, CommitFault};
 use lvm_disk::Shelf;
-use lvm_erase::erase_descriptor;
+use lvm_erase::{erase_descriptor, newest_is_shown_or_none};
 use lvm_num::Pbuf;
 use lvm_session::{Session, darken};
 use lvm_transfer::Moved;
@@ -43,6 +43,7 @@ pub(crate) fn erase<S: Shelf>(
     // whatever the answer, where the disk shows a descriptor of the group and that slot holds the older one
     ensures keeps { EraseKeeps disk (slot_number second_is_older) patience.old.left patience.new.left (state_of S.device driver) (state_of S.device result.0) }
 {
+    newest_is_shown_or_none();
     let mut driver = driver;
     driver.enter(Entry::Removed {
         vol: Vol::Disk(disk),

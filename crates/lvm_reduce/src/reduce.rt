@@ -15,7 +15,7 @@ ghost use Rattle.lvm_member_plan.specs.Steps.{MayDepartAll};
 ghost use Rattle.lvm_reduce.specs.Answers.{IfOn, IsAnswerOf, IsOfRecords, LeaveEnds, ReduceGives};
 ghost use Rattle.lvm_reduce.specs.Departures.{AreDepartures, HasNumbersFor, disks_of};
 
-use crate::departure::{Departure, departure};
+use crate::departure::{Departure, plan_departure};
 use crate::leaving::depart;
 use lvm_core::below::Patience;
 use lvm_core::{CommandDriver, CommitFault};
@@ -131,7 +131,7 @@ fn departures(alloc: Global, session: &Session, disks: &[u16]) -> Result<Vec<Dep
     let mut planned = Vec::new(alloc);
     let mut group = clone_descriptor(alloc, &session.descriptor)?;
     for disk in disks {
-        planned.push(departure(alloc, session, &group, *disk)?)?;
+        planned.push(plan_departure(alloc, session, &group, *disk)?)?;
         group = without_members(alloc, &group, &[*disk], false)?;
     }
     Ok(planned)
