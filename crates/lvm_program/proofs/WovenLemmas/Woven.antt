@@ -34,6 +34,7 @@ use Rattle.lvm_load.specs.Weaving.{Weaves, Weaving}
 use Rattle.lvm_load.proofs.FactsLemmas.{Gains, begun_still, gains_none, gains_then, turn_gains, weave_gains}
 use Rattle.lvm_top.specs.passed.HolderVariants as holder
 use Rattle.lvm_top.specs.passed.Tie.{RunsOn}
+use Rattle.lvm_line.specs.passed.RefusalVariants as refusal
 use Rattle.lvm_top.specs.passed.ReplyVariants as reply
 use Rattle.lvm_top.specs.passed.Lines.{IsLine, asked_after, role_of}
 use Rattle.lvm_top.specs.passed.GroupLines.{Holder, IsBetween, IsBetweenStage, IsOfKind, IsAlone, IsStuck, IsTimely, OfRequests, Reply, Stage, StandsAlone, StandsBy, ScriptState, history_in, history_of, moment_in, most_refusals, session_in, session_of, shelf_of, state_in, without_facts}
@@ -44,7 +45,8 @@ use Rattle.lvm_top.proofs.passed.Tie.{path_frames}
 use Rattle.lvm_line.proofs.passed.Tie.{goes_any}
 use Rattle.lvm_program.specs.Program.{PromisesWovenBlank}
 use Rattle.lvm_line.specs.Lines.{IsOrder}
-use Rattle.lvm_program.specs.Heeding.{IsNoOrder, IsTroubled}
+use Rattle.lvm_line.specs.Causes.{LacksOnTheWay}
+use Rattle.lvm_program.specs.Heeding.{IsNoOrder, IsShortOfVotes, IsTroubled}
 use Rattle.lvm_program.proofs.HeedingLemmas.{closed_orders, concludes_orders, device_path, untroubled}
 use Rattle.lvm_top.specs.Laws.{MayRun}
 use Rattle.lvm_top.specs.Plain.{FindsOneGroup}
@@ -415,6 +417,11 @@ module _ (disks mib : ℕ) (load : Workload) (r : Run) (ready : IsReady r.entry)
 -- ---- a shelf that heeds orders alone
 
 -- the run orders nothing
+-- a line that lacks no votes on its way isn't answered so
+has_its_votes : (read : Result (Option Command) Misfit) (answer : Reply) (old : ScriptState) → ((have total : ℕ) → LacksOnTheWay read have total old → ⊥) → IsShortOfVotes read answer old → ⊥
+has_its_votes read (reply.Refused (refusal.WentOff have total)) old has short = has have total short
+has_its_votes read other old has short = short
+
 module _ (log : Log) (room : Room) (disks mib : ℕ) (sized : IsSized disks mib) where
   no_group_order : IsNoOrder (mkvg_line disks)
   no_group_order order = subst IsOrder (group_reads disks sized.0 sized.1) order
@@ -428,8 +435,8 @@ module _ (log : Log) (room : Room) (disks mib : ℕ) (sized : IsSized disks mib)
 
   -- its lines aren't refused for what the shelf did
   made_untroubled : (first : ScriptState) (answer : Reply) (last : ScriptState) → NothingCounted last.moment.device.counts → IsMade log room (mkvg_line disks) (mklv_line disks mib) first answer last → IsTroubled answer → ⊥
-  made_untroubled first answer last none (NoGroup not it) = untroubled log room (mkvg_line disks) first last none answer it
-  made_untroubled first answer last none (HasGroup mid makes it) = untroubled log room (mklv_line disks mib) mid last none answer it
+  made_untroubled first answer last none (NoGroup not it) troubled = has_its_votes _ answer first (λ have total it. it) (subst (λ (read : Result (Option Command) Misfit). IsShortOfVotes read answer first) (group_reads disks sized.0 sized.1) (untroubled log room (mkvg_line disks) first last none answer it troubled))
+  made_untroubled first answer last none (HasGroup mid makes it) troubled = has_its_votes _ answer mid (λ have total it. it) (subst (λ (read : Result (Option Command) Misfit). IsShortOfVotes read answer mid) (volume_reads disks mib sized) (untroubled log room (mklv_line disks mib) mid last none answer it troubled))
 
 ends_orders : (blocks : ℕ) (load : Workload) (answer : Reply) (run : ℕ) (end : Moment) (on : Option Core) (exit : Exit) → EndsWoven blocks load answer run end on exit → exit.moment.device.orders ≡ end.device.orders
 ends_orders blocks load answer run end on exit (NotMade not it) = concludes_orders run end exit.moment on it.concludes

@@ -23,6 +23,16 @@ returns-in-ChvgQuorum g c = done_by g.S.Shelf.device c.args.room c.args.command 
 pub returns-in-ChvgBig : goal.returns-in-ChvgBig
 returns-in-ChvgBig g c = done_by g.S.Shelf.device c.args.room c.args.command _ _ _ c.do_chvg_big.result.reply _ _ _ _ c.in-ChvgBig.is (c.do_chvg_big.ensures (g.C.Clock.last c.args.clock.now)) refl
 
+pub do_reducevg-requires-clause-some : goal.do_reducevg-requires-clause-some
+do_reducevg-requires-clause-some g c = subst (λ (disks : List ℕ). 1 ≤ length disks) (sym c.as_slice-in-Reducevg.ensures) c.requires.within.0
+
+pub returns-in-Reducevg : goal.returns-in-Reducevg
+returns-in-Reducevg g c =
+    done_by g.S.Shelf.device c.args.room c.args.command _ _ _ c.do_reducevg.result.reply _ _ _ _ c.in-Reducevg.is
+    (subst (λ (disks : List ℕ). CommandEnds g.S.Shelf.device (λ log. ReducevgDoes c.in-Reducevg.name disks) ⊥ OfGroup c.args.stage c.do_reducevg.result.stage c.do_reducevg.result.reply (g.C.Clock.last c.args.clock.now) (g.C.Clock.last c.args.clock.now)) c.as_slice-in-Reducevg.ensures
+    (c.do_reducevg.ensures (g.C.Clock.last c.args.clock.now)))
+    refl
+
 pub returns-in-Mklv : goal.returns-in-Mklv
 returns-in-Mklv g c = done_by g.S.Shelf.device c.args.room c.args.command _ _ _ c.do_mklv.result.reply _ _ _ _ c.in-Mklv.is (c.do_mklv.ensures (g.C.Clock.last c.args.clock.now)) refl
 
