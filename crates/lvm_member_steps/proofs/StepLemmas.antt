@@ -1,5 +1,5 @@
 -- When a step may be made, and how it ends.
-use Rattle.std.proofs.Common.{◌≡◌, ◌⊎◌, inl, inr, ⊎_elim, ℕ, Bool, true, false, ◌&&◌, not, List, [], refl, sym, ◌∙◌, ap, subst}
+use Rattle.std.proofs.Common.{◌≡◌, ◌⊎◌, inl, inr, ⊎_elim, ℕ, Bool, true, false, ◌&&◌, not, List, [], ◌∷◌, if◌then◌else◌, refl, sym, ◌∙◌, ap, subst}
 use Rattle.std.specs.Prelude.{Option, Result, Ok, Err, IsTrue}
 use Rattle.std.proofs.lemmas.Bool.{false≢true}
 use Rattle.lvm_num.specs.declared.descriptor.PvRow.{PvRow}
@@ -17,7 +17,7 @@ use Rattle.lvm_core.specs.declared.fault.CommitFault.{CommitFault}
 use Rattle.lvm_core.specs.declared.fault.CommitFault.TheVariants as fault
 use Rattle.lvm_core.specs.Committing.{is_in}
 use Rattle.lvm_core.specs.Sound.{IsSoundAtRest}
-use Rattle.lvm_change_laws.specs.Rule.{MayChange, staying}
+use Rattle.lvm_change_laws.specs.Rule.{MayChange, staying, unspared}
 use Rattle.lvm_change_laws.proofs.StayingLemmas.{staying_member}
 use Rattle.lvm_turnover.specs.declared.change.Leaving.{Leaving}
 use Rattle.lvm_turnover.specs.Changing.{EndsFrom, IsNext, LeavesWithin, with_descriptor}
@@ -30,11 +30,22 @@ use Rattle.lvm_member_steps.proofs.HoldingLemmas.{step_before, step_fresh, step_
 
 -- ---- before it
 
+-- which members are spares doesn't tell which stay
+unspared_stay : (leaves : Disks) (rows : List PvRow) → unspared (staying leaves rows) ≡ staying leaves (unspared rows)
+unspared_stay leaves [] = refl
+unspared_stay leaves (row ∷ rows) = by (leaves row.disk) (unspared_stay leaves rows)
+  where
+    by : (gone : Bool) → unspared (staying leaves rows) ≡ staying leaves (unspared rows)
+        → unspared (if not gone then row ∷ staying leaves rows else staying leaves rows) ≡ (if not gone then record row { spare = false } ∷ staying leaves (unspared rows) else staying leaves (unspared rows))
+    by true rest = rest
+    by false rest = ap (λ (others : List PvRow). record row { spare = false } ∷ others) rest
+
 pub may_step : (leaving : List ℕ) (group next : Descriptor) (there : Disks) → IsStep leaving group next → CanWrite group there → CanWrite next there → MayChange (is_in leaving) group next there
 may_step leaving group next there step enough enough_too = record {
   valid = step.valid;
   valid_next = step.valid_next;
-  differs = step.is ∙ (λ t. record group { pvs = group_pvs; quorum = quorum_is t; even = next.even; big = big_is t });
+  differs = step.is ∙ (λ t. record group { pvs = pvs_is t; quorum = quorum_is t; even = next.even; big = big_is t });
+  members = ap unspared (sym pvs_is) ∙ unspared_stay (is_in leaving) group.pvs;
   near = step.near;
   enough = enough;
   enough_too = enough_too;
@@ -43,6 +54,9 @@ may_step leaving group next there step enough enough_too = record {
   where
     group_pvs : List PvRow
     group_pvs = staying (is_in leaving) group.pvs
+
+    pvs_is : group_pvs ≡ next.pvs
+    pvs_is = sym (ap (λ (g : Descriptor). g.pvs) step.is)
 
     quorum_is : group.quorum ≡ next.quorum
     quorum_is = sym (ap (λ (g : Descriptor). g.quorum) step.is)
