@@ -137,7 +137,7 @@ record Entering (all : List ℕ) (old new : State) : Type 0 where
   enters : HasEntered all disks old new
 
 module _ (gone : List ℕ) (x : ℕ) (out : Leaving) (out_is : out.disk ≡ x) (m p q r : ℕ) (M N : Descriptor → Type 0) (D E : List ℕ) (old now new : State) (basis : Basis gone old now) (group : AreOfOneGroup now.core) (member : IsTrue (is_member now.core.descriptor x))
-    (first : LeavesWithin m M [] D p q old now) (then : LeavesWithin 6 N [] E q r now new) (departed : HasDeparted x (Some out) now new)
+    (first : LeavesWithin m M [] D p q old now) (second : LeavesWithin 6 N [] E q r now new) (departed : HasDeparted x (Some out) now new)
     (origin_is : IsRerowed (reduced (x ∷ []) now.core.descriptor) old.core.origin.table out.origin) where
   abbrev all : List ℕ
   all = gone ++ x ∷ []
@@ -146,8 +146,8 @@ module _ (gone : List ℕ) (x : ℕ) (out : Leaving) (out_is : out.disk ≡ x) (
   fault y s = s.device.counts.faults y
 
   later : (y : ℕ) → IsErasedOrFailed y old.device now.device → is_member now.core.descriptor y ≡ false → IsErasedOrFailed y old.device new.device
-  later y (inl erased) stranger = inl (erased_on y 6 q r N E now new then group stranger erased)
-  later y (inr rose) stranger = inr (rose_on (old.device.counts.faults y) (now.device.counts.faults y) (new.device.counts.faults y) rose (then.falls.faults y))
+  later y (inl erased) stranger = inl (erased_on y 6 q r N E now new second group stranger erased)
+  later y (inr rose) stranger = inr (rose_on (old.device.counts.faults y) (now.device.counts.faults y) (new.device.counts.faults y) rose (second.falls.faults y))
 
   -- a disk of all is one of those before, or this one
   either : (y : ℕ) {X : Type 0} → (IsTrue (is_in gone y) → X) → (y ≡ x → X) → IsTrue (is_in all y) → X
@@ -172,7 +172,7 @@ module _ (gone : List ℕ) (x : ℕ) (out : Leaving) (out_is : out.disk ≡ x) (
 
   -- those before it that weren't entered
   others_before : (y : ℕ) → IsTrue (is_in gone y) → IsTrue (is_there old.core y) → IsFalse (is_in basis.entered y) → Rose (old.device.counts.faults y) (new.device.counts.faults y)
-  others_before y on was off = rose_on (old.device.counts.faults y) (now.device.counts.faults y) (new.device.counts.faults y) (basis.enters.others y on was off) (then.falls.faults y)
+  others_before y on was off = rose_on (old.device.counts.faults y) (now.device.counts.faults y) (new.device.counts.faults y) (basis.enters.others y on was off) (second.falls.faults y)
 
   entering : EntersOrNot x now new → Entering all old new
   entering (IsEntered was history erased) = record {
@@ -222,7 +222,7 @@ module _ (gone : List ℕ) (x : ℕ) (out : Leaving) (out_is : out.disk ≡ x) (
       not_entered : IsTrue (is_there old.core x) → Rose (old.device.counts.faults x) (new.device.counts.faults x)
       not_entered was = ⊎_elim
           (λ (still : IsTrue (is_there now.core x)). earlier (rose still))
-          (λ (lost : Rose (old.device.counts.faults x) (now.device.counts.faults x)). rose_on (old.device.counts.faults x) (now.device.counts.faults x) (new.device.counts.faults x) lost (then.falls.faults x))
+          (λ (lost : Rose (old.device.counts.faults x) (now.device.counts.faults x)). rose_on (old.device.counts.faults x) (now.device.counts.faults x) (new.device.counts.faults x) lost (second.falls.faults x))
           (there_or_lost m M D p q old now first x was member)
 
   table : new.core.origin.table ≡ out.origin

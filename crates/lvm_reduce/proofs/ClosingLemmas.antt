@@ -34,7 +34,7 @@ use Rattle.lvm_reduce.specs.Erasing.{IsErasedOrFailed, as_raw}
 use Rattle.lvm_reduce.specs.Departures.{IsTurnFrom, IsOnShelf, ShowsIfMarked, EntersMarked, EntersRaw, EntersNothing, HasTidied, TidyEnds, HasClosed, CloseEnds, changes_of, next_of}
 use Rattle.lvm_reduce.proofs.ChangesLemmas.{next_reduces}
 use Rattle.lvm_reduce.proofs.EraseLemmas.{no_copy_on}
-use Rattle.lvm_reduce.proofs.MarkedLemmas.{marked_on}
+use Rattle.lvm_reduce.proofs.MarkedLemmas.{marked_on, shelf_on}
 
 -- ---- what a session is with another history
 
@@ -47,9 +47,6 @@ settled_with core log is = record {
   votes = is.votes;
 }
 
-none_in_none : (x : ℕ) {X : Type 0} → IsTrue (is_in [] x) → X
-none_in_none x is = absurd (false≢true is)
-
 module _ (disk : ℕ) (mark : Option Mark) (after : Option Change) (a : State) (settled : IsSettled a.core) (group : AreOfOneGroup a.core) (ready : IsReady a.device) (stranger : is_member a.core.descriptor disk ≡ false)
     (turn : IfSome after (IsTurnFrom a.core.descriptor)) (on : IfSome mark (IsOnShelf disk a)) where
   abbrev next : Descriptor
@@ -61,13 +58,16 @@ module _ (disk : ℕ) (mark : Option Mark) (after : Option Change) (a : State) (
   abbrev most : ℕ
   most = 3 * changes_of after
 
+  abbrev N : Descriptor → Type 0
+  N = IsReducedBy (disk ∷ []) a.core.descriptor
+
   -- the change broke off
   pub close_broke : (p : ℕ) (b : State) (why : CommitFault) → StepEnds None next p a b (Err why) → CloseEnds disk mark next p a b (Err why)
-  close_broke p b why ends raw could = breaks_then (is_there a.core) raw [] (disk ∷ []) none_in_none none_in_none p p a a (come_here raw (disk ∷ []) p a ready) b why (ends [] (way []))
+  close_broke p b why ends raw could = breaks_then (is_there a.core) raw [] (disk ∷ []) (λ x none. absurd (false≢true none)) (λ x none was. absurd (false≢true none)) p p a a (come_here raw (disk ∷ []) p a ready) b why (ends [] (way []))
 
   pub close_leaves_broke : (p q : ℕ) (b : State) → ((disks : List ℕ) → LeavesWithin most (IsReducedBy disks a.core.descriptor) [] [] p q a b) → LeavesIf (ShowsIfMarked disk mark a) most (IsReducedBy (disk ∷ []) a.core.descriptor) (disk ∷ []) p q a b
   close_leaves_broke p q b leaves = as_if (ShowsIfMarked disk mark a) most (IsReducedBy (disk ∷ []) a.core.descriptor) (disk ∷ []) p q a b
-      (within_more (IsReducedBy (disk ∷ []) a.core.descriptor) (IsReducedBy (disk ∷ []) a.core.descriptor) [] (disk ∷ []) (λ k is. is) none_in_none most most p q (omega arith) a b (leaves (disk ∷ [])))
+      (within_more (IsReducedBy (disk ∷ []) a.core.descriptor) (IsReducedBy (disk ∷ []) a.core.descriptor) [] (disk ∷ []) (λ k is. is) (λ x none. absurd (false≢true none)) most most p q (omega arith) a b (leaves (disk ∷ [])))
 
   module _ (p q : ℕ) (b : State) (done : HasStepped None next a b) (leaves : (disks : List ℕ) → LeavesWithin most (IsReducedBy disks a.core.descriptor) [] [] p q a b) where
     now : b.core.descriptor ≡ next
@@ -78,6 +78,9 @@ module _ (disk : ℕ) (mark : Option Mark) (after : Option Change) (a : State) (
 
     still_shows : ShowsIfMarked disk mark a → ShowsIfMarked disk mark b
     still_shows shows = marked_on disk most p q (IsReducedBy [] a.core.descriptor) a b (leaves []) group stranger id mark on shows
+
+    pub on_behind : IfSome mark (IsOnShelf disk b)
+    on_behind = shelf_on disk most p q (IsReducedBy [] a.core.descriptor) a b (leaves []) group stranger id mark on
 
     history : b.core.history ≡ a.core.history
     history = ap (λ (k : Core). k.history) done.is
@@ -122,6 +125,10 @@ module _ (disk : ℕ) (mark : Option Mark) (after : Option Change) (a : State) (
       close_broke_tidying (fault.WentOff have total) none raw could = absurd none
       close_broke_tidying (fault.DiskFailed other) none raw could = absurd none
 
+      pub close_ends : (answer : Result (Unit {0}) CommitFault) → TidyEnds disk mark q b c answer → CloseEnds disk mark next p a c answer
+      close_ends (Ok done) ends = close_done ends
+      close_ends (Err why) ends = close_broke_tidying why ends
+
       -- what it leaves
       pub close_leaves : LeavesIf (ShowsIfMarked disk mark b) 0 NoDescriptor (disk ∷ []) q r b c → LeavesIf (ShowsIfMarked disk mark a) most (IsReducedBy (disk ∷ []) a.core.descriptor) (disk ∷ []) p r a c
       close_leaves two = if_more (ShowsIfMarked disk mark a) (ShowsIfMarked disk mark a) N N (disk ∷ []) (disk ∷ []) (λ is. is) (λ k is. is) (λ x is. is) (most + 0) most p r (omega arith) a c
@@ -129,9 +136,6 @@ module _ (disk : ℕ) (mark : Option Mark) (after : Option Change) (a : State) (
           (close_leaves_broke p q b leaves)
           (if_more (ShowsIfMarked disk mark b) (ShowsIfMarked disk mark b) NoDescriptor N (disk ∷ []) (disk ∷ []) (λ is. is) (λ k none. absurd none) (λ x is. is) 0 0 q r (omega arith) b c two))
         where
-          abbrev N : Descriptor → Type 0
-          N = IsReducedBy (disk ∷ []) a.core.descriptor
-
           ids : (k : Descriptor) → N k → k.id ≡ a.core.status.group.id
           ids k is = ap (λ (g : Descriptor). g.id) is.is ∙ sym (ap (λ (g : Descriptor). g.id) group.status)
 

@@ -113,6 +113,10 @@ module _ (p : Departure) (a : State) (group : AreOfOneGroup a.core) (ready : IsR
             copies : (lv lp : ℕ) → copies_in c.core.descriptor lv lp ≡ copies_in b.core.descriptor lv lp
             copies lv lp = ap (λ (k : Core). copies_in k.descriptor lv lp) left.is
 
+        pub depart_ends : (answer : Result (Unit {0}) CommitFault) → DepartEnds disk p.out.leaving m b c answer → DepartEnds disk p.out.leaving l a c answer
+        depart_ends (Ok done) ends = depart_done ends
+        depart_ends (Err why) ends = depart_broke_leaving why ends
+
       pub depart_leaves : LeavesWithin rest (IsReducedBy (disk ∷ []) b.core.descriptor) [] (disk ∷ []) m n b c → LeavesWithin 6 N [] (disk ∷ []) l n a c
       depart_leaves two =
           let few = can.1.few in

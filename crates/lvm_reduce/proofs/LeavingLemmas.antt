@@ -147,6 +147,10 @@ module _ (disk : ℕ) (out : Change) (after : Option Change) (a : State) (group 
             same : (lv lp : ℕ) → copies_in c.core.descriptor lv lp ≡ copies_in b.core.descriptor lv lp
             same lv lp = ap (λ (g : Descriptor). copies_in g lv lp) (ap (λ (k : Core). k.descriptor) closed.is ∙ last) ∙ sym (ap (λ (g : Descriptor). copies_in g lv lp) (now ∙ way.step.is))
 
+        pub leave_ends : (answer : Result (Unit {0}) CommitFault) → CloseEnds disk mark (next_of after b.core.descriptor) q b c answer → DepartEnds disk out.leaving p a c answer
+        leave_ends (Ok done) ends = leave_done ends
+        leave_ends (Err why) ends = leave_broke_closing why ends
+
       pub leave_leaves : LeavesIf (ShowsIfMarked disk mark b) (3 * changes_of after) (IsReducedBy (disk ∷ []) b.core.descriptor) (disk ∷ []) q r b c → LeavesWithin (3 + 3 * changes_of after) N [] (disk ∷ []) p r a c
       leave_leaves two = as_within (Unit {0}) (3 + 3 * changes_of after) N (disk ∷ []) p r a c (λ held. tt)
           (if_then (Unit {0}) (ShowsIfMarked disk mark b) N (disk ∷ []) a b c (inr (subst N (sym now) out_way)) ids apart done.before (λ always held. done.still.held held) 3 (3 * changes_of after) p q r (λ always held. shows held)

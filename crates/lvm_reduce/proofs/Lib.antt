@@ -11,3 +11,4 @@ pub mod LeavingLemmas
 pub mod ListLemmas
 pub mod MarkedLemmas
 pub mod RawLemmas
+pub mod TidyingLemmas

@@ -13,7 +13,7 @@ use Rattle.lvm_num.proofs.Booleans.{clash}
 use Rattle.lvm_rec.specs.Homes.{second_slots}
 use Rattle.lvm_rec.specs.Slots.{slot_for, newest_on}
 use Rattle.lvm_disk.specs.Counts.{Rose}
-use Rattle.lvm_disk.specs.Device.{Image, Media, image_of}
+use Rattle.lvm_disk.specs.Device.{Image, Media, SameDisks, image_of}
 use Rattle.lvm_kept.specs.Contents.{contents_of, descriptor_on, has_records}
 use Rattle.lvm_kept.specs.Group.{passes, is_of}
 use Rattle.lvm_kept.specs.Plans.{ChangesBy}
@@ -41,10 +41,10 @@ no_target s group d none = ap (λ (g : Descriptor). members_there g s.core.statu
 
 -- ---- a disk whose sectors stay
 
-module _ (a b : Image) (disk : ℕ) (sizes : b.sizes ≡ a.sizes) (same : (s : ℕ) → b.sector disk s ≡ a.sector disk s) where
+module _ (a b : Image) (disk : ℕ) (disks : SameDisks a b) (same : (s : ℕ) → b.sector disk s ≡ a.sector disk s) where
   shown_same : descriptor_on b disk ≡ descriptor_on a disk
   unfolding descriptor_on
-  shown_same = ap (λ (t : Bool). if t then newest_on descriptor_of kind.Descriptor (b.sector disk) else None) (room-same a b sizes disk)
+  shown_same = ap (λ (t : Bool). if t then newest_on descriptor_of kind.Descriptor (b.sector disk) else None) (room-same a b disks disk)
       ∙ (λ t. if has_records a disk then newest_on descriptor_of kind.Descriptor (λ s. same s t) else None)
 
   older_same : (id older : ℕ) → ShowsOlder a id disk older → ShowsOlder b id disk older
@@ -74,15 +74,15 @@ module _ (disk m p q : ℕ) (N : Descriptor → Type 0) (a b : State) (leaves : 
   marked_on None on shows = tt
   marked_on (Some m) on shows = λ same.
       let first = on.before in
-      let then = leaves.falls.faults disk in
-      erasable_on (slot_number m.second_is_older) (shows (omega (arith, first, then, same)))
+      let later = leaves.falls.faults disk in
+      erasable_on (slot_number m.second_is_older) (shows (omega (arith, first, later, same)))
 
   pub shelf_on : (mark : Option Mark) → IfSome mark (IsOnShelf disk a) → IfSome mark (IsOnShelf disk b)
   shelf_on None on = tt
   shelf_on (Some m) on = record {
     room = still_room a.device b.device disk leaves.writes.sizes on.room;
     low = on.low;
-    before = let first = on.before in let then = leaves.falls.faults disk in omega (arith, first, then);
+    before = let first = on.before in let later = leaves.falls.faults disk in omega (arith, first, later);
   }
 
 -- ---- behind its leaving

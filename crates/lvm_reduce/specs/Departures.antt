@@ -59,7 +59,7 @@ pub record IsWayOut (disk : ℕ) (d : Descriptor) (out : Change) (after : Option
   pub disk_is : leaving.disk ≡ disk
   pub member : IsTrue (is_member d disk)
   pub step : IsStep (disk ∷ []) d out.next
-  pub after : IfSome after (IsTurnFrom out.next)
+  pub turn : IfSome after (IsTurnFrom out.next)
   pub last : next_of after out.next ≡ reduced (disk ∷ []) d
 
 -- So it leaves, before which its group may become even. The status with which the session began is in the rows of those that stay.
