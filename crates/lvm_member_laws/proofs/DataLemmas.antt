@@ -1,17 +1,18 @@
 -- A change of members writes no data, so usable copies stay even.
-use Rattle.std.proofs.Common.{◌≡◌, inl, inr, ⊎_elim, ℕ, ◌<◌, ◌≤◌, List, Some, sym, ap, subst, ◌∙◌, arith}
+use Rattle.std.proofs.Common.{◌≡◌, inl, inr, ⊎_elim, ℕ, ◌+◌, ◌<◌, ◌≤◌, List, length, Some, sym, ap, subst, ◌∙◌, arith}
 use Rattle.std.specs.Prelude.{IsTrue}
 use Rattle.std.proofs.lemmas.Bool.{cases_Bool}
 use Rattle.lvm_num.specs.declared.descriptor.Descriptor.{Descriptor}
 use Rattle.lvm_num.specs.declared.descriptor.LvRow.{LvRow}
 use Rattle.lvm_num.specs.declared.place.Pp.{Pp}
+use Rattle.lvm_num.specs.declared.record.Kind.{Kind}
 use Rattle.lvm_num.specs.declared.record.Kind.TheVariants as kind
 use Rattle.lvm_num.specs.declared.status.Status.{Status}
 use Rattle.lvm_num.specs.Buffer.{Sector}
 use Rattle.lvm_num.specs.Descriptor.{copies_of}
 use Rattle.lvm_num.specs.DescriptorBytes.{descriptor_bytes}
 use Rattle.lvm_num.specs.Geometry.{data_start}
-use Rattle.lvm_num.specs.Record.{Stamped, slot_start}
+use Rattle.lvm_num.specs.Record.{Stamped, longest_content, record_sectors, slot_start}
 use Rattle.lvm_num.specs.Status.{calls_stale}
 use Rattle.lvm_num.proofs.Booleans.{clash}
 use Rattle.lvm_disk.specs.Device.{Image, Media, image_of}
@@ -21,22 +22,32 @@ use Rattle.lvm_kept.specs.Plans.{ChangesBy}
 use Rattle.lvm_kept.proofs.PlacesLemmas.{data-same}
 use Rattle.lvm_steps.proofs.LawsLemmas.Writes.{slot_below}
 use Rattle.lvm_erase.specs.Erasing.{ZeroesSlots}
+use Rattle.lvm_commit.specs.Settling.{IsOfCommit, IsOfStatus}
 use Rattle.lvm_even.specs.Commands.{IsUsable}
 use Rattle.lvm_even.specs.Even.{IsEven}
 use Rattle.lvm_even.proofs.CommandsLemmas.{free_keeps_even}
 use Rattle.lvm_volumes.specs.Even.{AreWanted}
 use Rattle.lvm_session.specs.State.{State, is_there}
 use Rattle.lvm_members.specs.passed.Turnover.{IsOfChange}
-use Rattle.lvm_tie_commands.proofs.CommandsLemmas.Records.{low_commit, low_status}
 
 zeroed_below : (disk d s : ℕ) (value : Sector) → ZeroesSlots disk d s value → s < data_start
-zeroed_below disk d s value (slot, two, on, at, zero) = subst (λ (n : ℕ). n < data_start) (sym at) (omega (arith, slot_below kind.Descriptor slot 0 two (omega arith)))
+zeroed_below disk d s value (slot, two, zeroes) = subst (λ (n : ℕ). n < data_start) (sym zeroes.1) (omega (arith, slot_below kind.Descriptor slot 0 two (omega arith)))
+
+record_below : (kind : Kind) (slot part len s : ℕ) → slot < 2 → len ≤ longest_content kind → part < record_sectors len → s ≡ slot_start kind slot + part → s < data_start
+record_below kind.Descriptor slot part len s two fits inside place = subst (λ (n : ℕ). n < data_start) (sym place) (slot_below kind.Descriptor slot part two (omega (arith, fits, inside)))
+record_below kind.Status slot part len s two fits inside place = subst (λ (n : ℕ). n < data_start) (sym place) (slot_below kind.Status slot part two (omega (arith, fits, inside)))
 
 module _ (N : Descriptor → Type 0) (joins erases : List ℕ) (old new : State) where
+  status_below : (d s : ℕ) (value : Sector) → IsOfStatus old.core.status new.core.status d s value → s < data_start
+  status_below d s value of = let w = of.0 in let fits = of.2.frames.content in record_below w.kind (w.slots d) of.2.its.its.part (length w.framed.content) s (of.2.slots d) fits of.2.its.its.inside of.2.its.its.place
+
+  commit_below : (content : List ℕ) (d s : ℕ) (value : Sector) → IsOfCommit content old.core.status new.core.status d s value → s < data_start
+  commit_below content d s value of = let w = of.0 in let fits = of.2.frames.content in record_below w.kind (w.slots d) of.2.its.its.part (length w.framed.content) s (of.2.slots d) fits of.2.its.its.inside of.2.its.its.place
+
   -- records and the heads of slots stand below the data
   below_data : (d s : ℕ) (value : Sector) → IsOfChange N joins erases old new d s value → s < data_start
-  below_data d s value (inl of) = low_status N old new d s value of
-  below_data d s value (inr (inl of)) = low_commit N old new (descriptor_bytes of.0) d s value of.2
+  below_data d s value (inl of) = status_below d s value of
+  below_data d s value (inr (inl of)) = commit_below (descriptor_bytes of.0) d s value of.2
   below_data d s value (inr (inr of)) = zeroed_below d d s value of.1
 
   data_stays : (was is : Image) → ChangesBy (IsOfChange N joins erases old new) was is → (d s : ℕ) → (contents_of is).block d s ≡ (contents_of was).block d s

@@ -1,3 +1,3 @@
 mod Rows
 mod DataLemmas
-mod ReducingLemmas
+pub mod ReducingLemmas

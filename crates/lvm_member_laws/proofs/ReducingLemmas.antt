@@ -1,3 +1,3 @@
-mod Finding
-mod Going
-mod Serving
+pub mod Finding
+pub mod Going
+pub mod Serving

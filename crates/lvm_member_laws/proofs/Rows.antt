@@ -1,5 +1,5 @@
 -- Members once some have left, and rows of statuses.
-use Rattle.std.proofs.Common.{◌≡◌, inl, inr, ℕ, zero, suc, ◌<◌, ◌==◌, Bool, true, false, ◌&&◌, ◌||◌, not, List, [], ◌∷◌, length, if◌then◌else◌, arith, refl, sym, ap, subst, ◌∙◌}
+use Rattle.std.proofs.Common.{◌≡◌, inl, inr, ℕ, zero, suc, ◌<◌, ◌==◌, Bool, true, false, ◌&&◌, ◌||◌, not, List, [], ◌∷◌, length, if◌then◌else◌, arith, refl, sym, ap, ◌∙◌}
 use Rattle.std.specs.Prelude.{IsTrue, IsFalse, Contains, filter, slice_index_or}
 use Rattle.std.specs.List.{list_any}
 use Rattle.std.proofs.lemmas.Bool.{eqb-true, eq-eqb}
@@ -29,18 +29,15 @@ has disk row = row.disk == disk
 
 member_filtered : (disks : List ℕ) (rows : List PvRow) (disk : ℕ) → list_any (has disk) (filter (stays disks) rows) ≡ (list_any (has disk) rows && not (is_in disks disk))
 member_filtered disks [] disk = refl
-member_filtered disks (row ∷ rows) disk = by (row.disk == disk) (not (is_in disks row.disk)) refl refl
+member_filtered disks (row ∷ rows) disk = by (member_filtered disks rows disk) (row.disk == disk) (not (is_in disks row.disk)) refl refl
   where
-    rest : list_any (has disk) (filter (stays disks) rows) ≡ (list_any (has disk) rows && not (is_in disks disk))
-    rest = member_filtered disks rows disk
-
-    by : (t k : Bool) → (row.disk == disk) ≡ t → not (is_in disks row.disk) ≡ k → list_any (has disk) (if k then row ∷ (filter (stays disks) rows) else (filter (stays disks) rows)) ≡ ((t || list_any (has disk) rows) && not (is_in disks disk))
-    by true true is keeps = ap (λ (b : Bool). b || list_any (has disk) (filter (stays disks) rows)) is ∙ sym (sym (ap (λ (d : ℕ). not (is_in disks d)) (eqb-true row.disk disk is)) ∙ keeps)
-    by true false is goes =
+    by : list_any (has disk) (filter (stays disks) rows) ≡ (list_any (has disk) rows && not (is_in disks disk)) → (t k : Bool) → (row.disk == disk) ≡ t → not (is_in disks row.disk) ≡ k → list_any (has disk) (if k then row ∷ (filter (stays disks) rows) else (filter (stays disks) rows)) ≡ ((t || list_any (has disk) rows) && not (is_in disks disk))
+    by rest true true is keeps = ap (λ (b : Bool). b || list_any (has disk) (filter (stays disks) rows)) is ∙ sym (sym (ap (λ (d : ℕ). not (is_in disks d)) (eqb-true row.disk disk is)) ∙ keeps)
+    by rest true false is goes =
         let gone : not (is_in disks disk) ≡ false = sym (ap (λ (d : ℕ). not (is_in disks d)) (eqb-true row.disk disk is)) ∙ goes in
         rest ∙ ap (λ (b : Bool). list_any (has disk) rows && b) gone ∙ and_false (list_any (has disk) rows) ∙ sym gone
-    by false true isnt keeps = ap (λ (b : Bool). b || list_any (has disk) (filter (stays disks) rows)) isnt ∙ rest
-    by false false isnt goes = rest
+    by rest false true isnt keeps = ap (λ (b : Bool). b || list_any (has disk) (filter (stays disks) rows)) isnt ∙ rest
+    by rest false false isnt goes = rest
 
 -- those that stay are members that don't leave
 pub member_reduced : (disks : List ℕ) (d : Descriptor) (disk : ℕ) → is_member (reduced disks d) disk ≡ (is_member d disk && not (is_in disks disk))
@@ -72,12 +69,12 @@ one_of (y ∷ ys) x (suc k) less at = inr (one_of ys x k (omega (arith, less)) a
 
 one_unfiltered : {X : Type 0} (test : X → Bool) (xs : List X) (x : X) → IsOneOf (filter test xs) x → IsOneOf xs x
 one_unfiltered test [] x one = absurd one
-one_unfiltered test (y ∷ ys) x one = by (test y) one
+one_unfiltered test (y ∷ ys) x one = by (one_unfiltered test ys x) (test y) one
   where
-    by : (t : Bool) → IsOneOf (if t then y ∷ filter test ys else filter test ys) x → IsOneOf (y ∷ ys) x
-    by true (inl here) = inl here
-    by true (inr there) = inr (one_unfiltered test ys x there)
-    by false there = inr (one_unfiltered test ys x there)
+    by : (IsOneOf (filter test ys) x → IsOneOf ys x) → (t : Bool) → IsOneOf (if t then y ∷ filter test ys else filter test ys) x → IsOneOf (y ∷ ys) x
+    by behind true (inl here) = inl here
+    by behind true (inr there) = inr (behind there)
+    by behind false there = inr (behind there)
 
 -- a row that stays is one of those that there were
 pub kept_contained : (disks : List ℕ) (rows : List PvRow) (row : PvRow) → Contains (filter (λ (r : PvRow). not (is_in disks r.disk)) rows) row → Contains rows row

@@ -243,6 +243,14 @@ module _ (log : Log) (old new : ScriptState) (answer : Reply) (shelf : IsShelf o
     chvg_big_one name (BecomesBig core left mid some mine drains done is) = changed_one (IsNext (as_big mid.core.descriptor)) core left mid some drains (λ k is. ap (λ (d : Descriptor). d.id) is) done
     chvg_big_one name (ChvgBigFails core left mid why some mine drains done is) = changed_one (IsNext (as_big mid.core.descriptor)) core left mid some drains (λ k is. ap (λ (d : Descriptor). d.id) is) done
 
+    reducevg_one : (name disks : List ℕ) → ReducevgDoes name disks old new answer → FindsOneGroup now
+    reducevg_one name disks (NoGroupForReducevg none is) = same_one is.1
+    reducevg_one name disks (NoMemoryForReducevg some is) = same_one is.1
+    reducevg_one name disks (BusyReducevg mine busy is) = same_one is.1
+    reducevg_one name disks (UndrainedReducevg core why some mine un) = nothing_one was now (undrained_nothing log.run old new between named stood core why answer some un) one
+    reducevg_one name disks (ReducesGroup core left mid some mine drains done is) = changed_one (IsReducedBy disks mid.core.descriptor) core left mid some drains (reduced_id disks mid.core.descriptor) done
+    reducevg_one name disks (ReducevgFails core left mid why some mine drains done is) = changed_one (IsReducedBy disks mid.core.descriptor) core left mid some drains (reduced_id disks mid.core.descriptor) done
+
   -- ---- `migratepv`
 
   migratepv_one : (volume : Option (List ℕ)) (from to : ℕ) → StandsForMoves log.run OfRequests old new → MigratepvDoes volume from to old new answer → FindsOneGroup now
@@ -255,14 +263,6 @@ module _ (log : Log) (old new : ScriptState) (answer : Reply) (shelf : IsShelf o
       let same : id ≡ core.descriptor.id = committed.own ∙ own_moved log.run old new between named may volume from to core some k committed.is in
       (core.descriptor, subst (λ (n : ℕ). MayBeFound was n core.descriptor) (sym same) (found_first log.run old new between named may core some volumes)))
       (migrated_finds log.run old new between named may core some volumes lv from to answer its volume asked id k it)) one
-
-    reducevg_one : (name disks : List ℕ) → ReducevgDoes name disks old new answer → FindsOneGroup now
-    reducevg_one name disks (NoGroupForReducevg none is) = same_one is.1
-    reducevg_one name disks (NoMemoryForReducevg some is) = same_one is.1
-    reducevg_one name disks (BusyReducevg mine busy is) = same_one is.1
-    reducevg_one name disks (UndrainedReducevg core why some mine un) = nothing_one was now (undrained_nothing log.run old new between named stood core why answer some un) one
-    reducevg_one name disks (ReducesGroup core left mid some mine drains done is) = changed_one (IsReducedBy disks mid.core.descriptor) core left mid some drains (reduced_id disks mid.core.descriptor) done
-    reducevg_one name disks (ReducevgFails core left mid why some mine drains done is) = changed_one (IsReducedBy disks mid.core.descriptor) core left mid some drains (reduced_id disks mid.core.descriptor) done
 
   -- ---- another line
 

@@ -1,22 +1,20 @@
 -- Behind disks that leave, or that were to leave, what a crash image finds of the group.
-use Rattle.std.proofs.Common.{◌≡◌, inl, inr, ⊎_elim, ℕ, List, [], Some, Result, Ok, sym, ap, subst, ◌∙◌}
-use Rattle.std.specs.Prelude.{IsTrue, IsFalse}
+use Rattle.std.proofs.Common.{◌≡◌, inl, inr, ⊎_elim, ℕ, Ok, sym, ap, subst, ◌∙◌}
+use Rattle.std.specs.Prelude.{IsFalse}
 use Rattle.lvm_num.specs.declared.descriptor.Descriptor.{Descriptor}
 use Rattle.lvm_num.specs.Descriptor.{is_member}
 use Rattle.lvm_num.proofs.Lists.{of_told, some_told}
 use Rattle.lvm_disk.specs.Device.{Media}
 use Rattle.lvm_kept.proofs.MomentsLemmas.Chaining.{span_told}
-use Rattle.lvm_core.specs.Committing.{is_in}
-use Rattle.lvm_session.specs.State.{Core, State}
+use Rattle.lvm_session.specs.State.{Core}
 use Rattle.lvm_volume_plan.specs.passed.Core.{MayBeFound}
 use Rattle.lvm_handover.specs.passed.Core.{IsHeld}
 use Rattle.lvm_member_plan.specs.Descriptors.{IsReducedBy, reduced}
 use Rattle.lvm_tie_commands.proofs.BeginsLemmas.{Held}
 use Rattle.lvm_tie_commands.proofs.ChangingLemmas.Finding.{only_before}
-use Rattle.lvm_tie_commands.proofs.CommandsLemmas.Commands.{told_next}
 use Rattle.lvm_tie_commands.proofs.HeldLemmas.{holds_before}
 use Rattle.lvm_tie_commands.proofs.Resting.{still}
-use Rattle.lvm_member_laws.specs.Reducing.{IsReduced, ReduceFinds, ReduceLeavesOut}
+use Rattle.lvm_member_laws.specs.Reducing.{ReduceFinds, ReduceLeavesOut}
 use Rattle.lvm_member_laws.proofs.Rows.{left_out}
 use Rattle.lvm_member_laws.proofs.ReducingLemmas.Going.{standing}
 

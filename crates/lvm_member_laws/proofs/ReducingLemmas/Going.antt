@@ -1,6 +1,6 @@
 -- Over disks that leave a group a span goes on, and what stood stands again.
-use Rattle.std.proofs.Common.{◌≡◌, ℕ, Bool, true, false, ◌&&◌, not, List, [], Option, Some, Result, Ok, Err, refl, sym, ap, subst, ◌∙◌}
-use Rattle.std.specs.Prelude.{◌≢◌, IsTrue, IsFalse, ⊤, MatchBool}
+use Rattle.std.proofs.Common.{◌≡◌, ℕ, Bool, true, false, not, List, [], Option, Some, Result, Ok, Err, refl, sym, ap, subst, ◌∙◌}
+use Rattle.std.specs.Prelude.{◌≢◌, IsTrue, ⊤, MatchBool}
 use Rattle.lvm_num.specs.declared.descriptor.Descriptor.{Descriptor}
 use Rattle.lvm_num.specs.declared.place.Pp.{Pp}
 use Rattle.lvm_num.specs.declared.status.Status.{Status}
@@ -16,7 +16,6 @@ use Rattle.lvm_kept.specs.Plans.{ChangesBy}
 use Rattle.lvm_steps.specs.Moments.{Keeps}
 use Rattle.lvm_steps.proofs.RecordLemmas.{join, split}
 use Rattle.lvm_commit.specs.LawsOfVolumes.{IsOneFoundOn}
-use Rattle.lvm_core.specs.Committing.{is_in}
 use Rattle.lvm_session.specs.State.{Core, State, is_there, moment_of}
 use Rattle.lvm_volume_plan.specs.passed.Core.{IsSettled}
 use Rattle.lvm_even.specs.Even.{IsEven}
@@ -25,9 +24,9 @@ use Rattle.lvm_members.specs.passed.Turnover.{IsOfChange}
 use Rattle.lvm_member_plan.specs.declared.fault.ReduceFault.{ReduceFault}
 use Rattle.lvm_member_plan.specs.declared.fault.ReduceFault.TheVariants as fault
 use Rattle.lvm_reduce.specs.Answers.{HasReduced, IfOn, ReduceGives, is_over}
-use Rattle.lvm_member_plan.specs.Descriptors.{IsReducedBy, reduced}
+use Rattle.lvm_member_plan.specs.Descriptors.{IsReducedBy}
 use Rattle.lvm_tie_commands.specs.Commands.{IsLeftStandingSince, MayBeCommanded}
-use Rattle.lvm_tie_commands.proofs.CommandsLemmas.Commands.{KeepsEven, KeepsEvenFor, LeavesStanding, keeps_even_for, left_standing_by, told_next}
+use Rattle.lvm_tie_commands.proofs.CommandsLemmas.Commands.{KeepsEven, LeavesStanding, keeps_even_for, left_standing_by, told_next}
 use Rattle.lvm_tie_commands.proofs.HeldLemmas.{holds_before}
 use Rattle.lvm_member_laws.specs.Reducing.{IsReduced, ReduceGoesOn}
 use Rattle.lvm_member_laws.proofs.Rows.{not_leaving, was_member}
@@ -71,7 +70,7 @@ module _ (run : ℕ) (first : Moment) (disks : List ℕ) (before after : ℕ) (o
   abbrev Between : Media → Media → Type 0
   Between was is = ChangesBy (IsOfChange IsOne [] disks old new) (image_of old.device.sizes was) (image_of new.device.sizes is)
 
-  standing : LeavesStanding old new
+  pub standing : LeavesStanding old new
   standing = record {
     told = λ was told. told_next old.device.media new.device.media Between was told c.leaves.writes.media;
     calm = c.leaves.calm;

@@ -1,9 +1,8 @@
 -- A session that disks have left is sound with requests.
-use Rattle.std.proofs.Common.{◌≡◌, ◌⊎◌, inl, inr, ⊎_elim, ℕ, ◌==◌, ◌-◌, ◌≤◌, ◌<◌, ◌^◌, Bool, true, false, ◌&&◌, not, List, [], ◌∷◌, ◌++◌, length, Result, Ok, Err, refl, sym, ap, subst, ◌∙◌, arith}
+use Rattle.std.proofs.Common.{◌≡◌, ◌⊎◌, inl, inr, ⊎_elim, ℕ, ◌==◌, ◌-◌, ◌≤◌, ◌<◌, ◌^◌, Bool, true, false, ◌&&◌, List, [], ◌∷◌, length, Ok, Err, refl, sym, ap, subst, ◌∙◌, arith}
 use Rattle.std.specs.Prelude.{IsTrue, IsFalse, Contains}
 use Rattle.std.proofs.lemmas.Bool.{or_right}
 use Rattle.lvm_num.specs.declared.descriptor.Descriptor.{Descriptor}
-use Rattle.lvm_num.specs.declared.descriptor.PvRow.{PvRow}
 use Rattle.lvm_num.specs.declared.descriptor.LvRow.{LvRow}
 use Rattle.lvm_num.specs.declared.place.Pp.{Pp}
 use Rattle.lvm_num.specs.Descriptor.{IsValid, is_member, most_members}
@@ -34,9 +33,8 @@ use Rattle.lvm_keeps.proofs.LeftLemmas.Updates.{few_updates}
 use Rattle.lvm_volumes.specs.Endings.{HasFresh, KeepsFresh, StillHeld}
 use Rattle.lvm_volumes.proofs.StagesLemmas.Entering.{many_bound}
 use Rattle.lvm_members.specs.passed.Turnover.{ChangeLeaves}
-use Rattle.lvm_member_plan.specs.declared.fault.ReduceFault.{ReduceFault}
 use Rattle.lvm_member_plan.specs.declared.fault.ReduceFault.TheVariants as fault
-use Rattle.lvm_reduce.specs.Answers.{HasReduced, IfOn}
+use Rattle.lvm_reduce.specs.Answers.{HasReduced}
 use Rattle.lvm_member_plan.specs.Descriptors.{IsReducedBy, reduced}
 use Rattle.lvm_member_plan.specs.Refusals.{MayReduce}
 use Rattle.lvm_member_steps.specs.Steps.{with_removed}
@@ -45,8 +43,8 @@ use Rattle.lvm_handover.proofs.ServingLemmas.Serving.{other_members_serve}
 use Rattle.lvm_handover.proofs.ServingLemmas.Volumes.{found, had_fresh, its_row, none_before}
 use Rattle.lvm_tie_commands.specs.Serving.{MayServeWith}
 use Rattle.lvm_tie_commands.proofs.ServingLemmas.More.{refused}
-use Rattle.lvm_member_laws.specs.Reducing.{IsReduced, ReduceServes}
-use Rattle.lvm_member_laws.proofs.Rows.{contained_is, kept_contained, missing_has_row, not_leaving, stale_has_row, was_member}
+use Rattle.lvm_member_laws.specs.Reducing.{ReduceServes}
+use Rattle.lvm_member_laws.proofs.Rows.{contained_is, kept_contained, missing_has_row, not_leaving, stale_has_row}
 
 -- so many members a group has at most
 at_most_128 : (big : Bool) → most_members big ≤ 128
