@@ -20,21 +20,17 @@ use Rattle.lvm_core.specs.declared.parts.Room.{Room}
 use Rattle.lvm_session.specs.declared.open.Power.{Power}
 use Rattle.lvm_session.specs.declared.open.Power.TheVariants as power
 use Rattle.lvm_session.specs.State.{Core}
-use Rattle.lvm_line.specs.Causes.{HasCause, HasFailedInSession, LacksOnTheWay, WereLost}
-use Rattle.lvm_line.specs.Complete.{NothingFailed}
-use Rattle.lvm_line.specs.Lines.{IsLine, IsOrder, LineDoes, role_of}
-use Rattle.lvm_line.specs.Told.{NothingSince}
-use Rattle.lvm_line.specs.passed.GroupLines.{ArrangeDoes, CutDoes, CutNotPlanned, IsArranged, NotPlanned, NotThere, PowerIsCut, IsAlone, IsClosed, IsTimely, Reply, ScriptState, StandsBy, patience_of_line}
-use Rattle.lvm_line.specs.passed.RefusalVariants as refusal
-use Rattle.lvm_line.specs.passed.ReplyVariants as reply
+use Rattle.lvm_top.specs.passed.Line.{HasCause, HasFailedInSession, LacksOnTheWay, WereLost, NothingFailed, IsLine, IsOrder, LineDoes, role_of, NothingSince}
+use Rattle.lvm_top.specs.passed.GroupLines.{ArrangeDoes, CutDoes, CutNotPlanned, IsArranged, NotPlanned, NotThere, PowerIsCut, IsAlone, IsClosed, IsTimely, Reply, ScriptState, StandsBy, patience_of_line}
+use Rattle.lvm_top.specs.passed.RefusalVariants as refusal
+use Rattle.lvm_top.specs.passed.ReplyVariants as reply
 use Rattle.lvm_top.specs.Ending.{Concludes, NoneIsOn, NoneIsServed, IsServed, NothingIsLeft, TurnsAreMade}
 use Rattle.lvm_top.proofs.passed.Tie.{path_frames}
 use Rattle.lvm_program.specs.Heeding.{AreHarmless, AreUntroubled, EndsHarmless, EndsUntroubled, GoesWell, IsHarm, IsHarmless, IsShortOfVotes, IsTroubled, IsUntroubled, RanHarmless, LinesOrderAlone, RunsHeedAlone, HarmlessRunsGoWell, HarmlessScriptsGoWell, ordered_after, ordered_behind, orders_of}
 use Rattle.lvm_top.specs.Run.{Run, IsRun, RanAlone}
 use Rattle.lvm_top.specs.Script.{Script, NoLine, NextLine, StaysAlone, Ends, AtLine, InLine, EndsAlone, EndsStuck, empty_log, entry_state, facts_of}
 use Rattle.lvm_top.proofs.LawsLemmas.Scripts.{first_stands}
-use Rattle.lvm_line.proofs.CausesLemmas.Posting.{told_is_well}
-use Rattle.lvm_line.proofs.CompleteLemmas.Completing.{lines_complete}
+use Rattle.lvm_top.proofs.passed.Line.{told_is_well, lines_complete}
 use Rattle.lvm_top.proofs.RefusedLemmas.{line_caused}
 use Rattle.lvm_top.proofs.ScriptLemmas.Concluding.{spanned}
 use Rattle.lvm_top.proofs.ScriptLemmas.Scripting.{begins_timely, script_went}

@@ -13,12 +13,10 @@ use Rattle.lvm_parse.specs.declared.rest.Misfit.{Misfit}
 use Rattle.lvm_parse.specs.Grammar.{line_of}
 use Rattle.lvm_steps.specs.Behind.{StampsAreEarlier}
 use Rattle.lvm_core.specs.declared.parts.Room.{Room}
-use Rattle.lvm_line.specs.Causes.{LacksOnTheWay}
-use Rattle.lvm_line.specs.Lines.{IsOrder}
-use Rattle.lvm_line.specs.Told.{IsWellTold}
-use Rattle.lvm_line.specs.passed.GroupLines.{Reply, ScriptState}
-use Rattle.lvm_line.specs.passed.RefusalVariants as refusal
-use Rattle.lvm_line.specs.passed.ReplyVariants as reply
+use Rattle.lvm_top.specs.passed.Line.{LacksOnTheWay, IsOrder, IsWellTold}
+use Rattle.lvm_top.specs.passed.GroupLines.{Reply, ScriptState}
+use Rattle.lvm_top.specs.passed.RefusalVariants as refusal
+use Rattle.lvm_top.specs.passed.ReplyVariants as reply
 use Rattle.lvm_top.specs.declared.status.ExitStatus.TheVariants as ended
 use Rattle.lvm_top.specs.Laws.{MayRun}
 use Rattle.lvm_top.specs.Run.{Run, IsRun, RanAlone, WhereAlone}

@@ -24,7 +24,7 @@ use Rattle.lvm_posts.specs.declared.posts.Post.{Post}
 use Rattle.lvm_session.specs.declared.open.Power.TheVariants as power
 use Rattle.lvm_session.specs.Judging.{is_moving}
 use Rattle.lvm_session.specs.State.{Core, State, state}
-use Rattle.lvm_line.proofs.passed.RangeLines.{none_moves}
+use Rattle.lvm_top.proofs.passed.RangeLines.{none_moves}
 use Rattle.lvm_load.specs.declared.totals.Totals.{Totals}
 use Rattle.lvm_load.specs.declared.workload.Workload.{Workload}
 use Rattle.lvm_load.specs.declared.workload.Woven.{Woven}
@@ -34,18 +34,16 @@ use Rattle.lvm_load.specs.Weaving.{Weaves, Weaving}
 use Rattle.lvm_load.proofs.FactsLemmas.{Gains, begun_still, gains_none, gains_then, turn_gains, weave_gains}
 use Rattle.lvm_top.specs.passed.HolderVariants as holder
 use Rattle.lvm_top.specs.passed.Tie.{RunsOn}
-use Rattle.lvm_line.specs.passed.RefusalVariants as refusal
+use Rattle.lvm_top.specs.passed.RefusalVariants as refusal
 use Rattle.lvm_top.specs.passed.ReplyVariants as reply
 use Rattle.lvm_top.specs.passed.Lines.{IsLine, asked_after, role_of}
 use Rattle.lvm_top.specs.passed.GroupLines.{Holder, IsBetween, IsBetweenStage, IsOfKind, IsAlone, IsStuck, IsTimely, OfRequests, Reply, Stage, StandsAlone, StandsBy, ScriptState, history_in, history_of, moment_in, most_refusals, session_in, session_of, shelf_of, state_in, without_facts}
 use Rattle.lvm_top.specs.declared.run.Ended.{Ended}
 use Rattle.lvm_top.specs.declared.status.ExitStatus.{ExitStatus}
 use Rattle.lvm_top.specs.declared.status.ExitStatus.TheVariants as ended
-use Rattle.lvm_top.proofs.passed.Tie.{path_frames}
-use Rattle.lvm_line.proofs.passed.Tie.{goes_any}
+use Rattle.lvm_top.proofs.passed.Tie.{path_frames, goes_any}
 use Rattle.lvm_program.specs.Program.{PromisesWovenBlank}
-use Rattle.lvm_line.specs.Lines.{IsOrder}
-use Rattle.lvm_line.specs.Causes.{LacksOnTheWay}
+use Rattle.lvm_top.specs.passed.Line.{IsOrder, LacksOnTheWay}
 use Rattle.lvm_program.specs.Heeding.{IsNoOrder, IsShortOfVotes, IsTroubled}
 use Rattle.lvm_program.proofs.HeedingLemmas.{closed_orders, concludes_orders, device_path, untroubled}
 use Rattle.lvm_top.specs.Laws.{MayRun}
