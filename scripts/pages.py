@@ -4,7 +4,7 @@
     pages.py [PAGE ..]              all four checks below; a line for each thing that is wrong, status 1 if there is any
     pages.py examples [PAGE ..]     runs each example of the pages and compares what it prints
     pages.py examples --write ..    writes what the program prints into the examples
-    pages.py examples --try ..      runs those of `lvm sim` alone, by `rt try`: without a proof, in a few minutes
+    pages.py examples --try ..      runs those over disks in memory alone, by `rt try`: without a proof, in a few minutes
     pages.py names [PAGE ..]        looks up each file and each name in backticks
     pages.py sentences [PAGE ..]    lists sentences of more than 30 words, and the median of each page
     pages.py tables                 compares the tables and the numbers that scripts make; --write makes them anew
@@ -138,7 +138,7 @@ def examples(pages, write):
 
 
 def sim_runs(body):
-    """The runs of `lvm sim` of a block: the words, the script, and what stands under it; and how many other commands it has."""
+    """The runs over disks in memory of a block: the words, the script, and what stands under it; and how many other commands it has."""
     runs, others, at = [], 0, 0
     while at < len(body):
         command, end = body[at][2:], at + 1
@@ -151,6 +151,10 @@ def sim_runs(body):
             runs.append((of_file[1].split(), lines, [it[wide:] for it in rows if it[wide:]]))
         elif re.fullmatch(r"lvm sim \d+ \d+", command) and any(it.startswith(">") for it in rows):
             runs.append((command.split()[1:], [it[2:] for it in rows if it.startswith(">")], [it for it in rows if not it.startswith(">")]))
+        elif piped := re.fullmatch(r"printf '([^']*)' \| lvm (sim \d+ \d+)", command):
+            runs.append((piped[2].split(), piped[1].replace("\\n", "\n").splitlines(), rows))
+        elif drawn := re.fullmatch(r"lvm ((?:gen|weave)(?: \d+)+)(; echo status \$\?)?", command):
+            runs.append((drawn[1].split(), [], rows[:-1] if drawn[2] else rows))
         else:
             others += 1
         at = end
@@ -158,7 +162,7 @@ def sim_runs(body):
 
 
 def try_examples(pages):
-    """Runs what the examples have of `lvm sim` by `rt try`, which checks the types and builds once, and proves nothing."""
+    """Runs what the examples have over disks in memory by `rt try`, which checks the types and builds once, and proves nothing."""
     count, others, bad = 0, 0, []
     with tempfile.TemporaryDirectory() as folder:
         for page in pages:
@@ -178,7 +182,7 @@ def try_examples(pages):
         print(ran.stdout, end="")
         if ran.returncode:
             bad.append(f"examples: rt try ended with status {ran.returncode}")
-    print(f"examples: {count} run of `lvm sim`, {others} other commands not")
+    print(f"examples: {count} run over disks in memory, {others} other commands not")
     return bad
 
 
