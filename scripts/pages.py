@@ -5,7 +5,7 @@
     pages.py examples [PAGE ..]     runs each example of the pages and compares what it prints
     pages.py examples --write ..    writes what the program prints into the examples
     pages.py examples --try ..      runs those over disks in memory alone, by `rt try`: without a proof, in a few minutes
-    pages.py names [PAGE ..]        looks up each file and each name in backticks
+    pages.py names [PAGE ..]        looks up each file and each name in backticks, and what each wrong body changes
     pages.py sentences [PAGE ..]    lists sentences of more than 30 words, and the median of each page
     pages.py tables                 compares the tables and the numbers that scripts make; --write makes them anew
 
@@ -244,6 +244,31 @@ def names(pages):
                 for name in re.findall(r"`(\w+)`", "".join(group)):
                     if found and not re.search(rf"\b{name}\b", text):
                         bad.append(f"{page}:{number}: {name} isn't in {path}")
+    return bad
+
+
+def edits():
+    """Wrong bodies whose text doesn't stand just once where it is changed, or that the README of their crate doesn't name."""
+    bad = []
+    for folder in sorted(list(edits_under("crates")) + list(edits_under("scripts/wrong-bodies"))):
+        crate = folder.split("/")[-2] if folder.endswith("/must-fail") else folder.split("/")[-1]
+        page = read(f"crates/{crate}/README.md") if os.path.exists(f"{ROOT}/crates/{crate}/README.md") else ""
+        for name in sorted(os.listdir(folder)):
+            if not name.endswith(".edit"):
+                continue
+            path = os.path.relpath(f"{folder}/{name}", ROOT)
+            text = read(path)
+            file = re.search(r"^file: (.*)$", text, re.M)
+            if not file or not os.path.exists(f"{ROOT}/crates/{crate}/{file[1]}"):
+                bad.append(f"{path}: no file {file[1] if file else ''}")
+                continue
+            code = read(f"crates/{crate}/{file[1]}")
+            for lines in re.findall(r"((?:^old:.*\n)+)", text, re.M):
+                old = "\n".join(it[5:] for it in lines.rstrip("\n").split("\n"))
+                if code.count(old) != 1:
+                    bad.append(f"{path}: stands {code.count(old)} times: {old.strip()[:80]}")
+            if f"`{name[:-5]}`" not in page:
+                bad.append(f"{path}: crates/{crate}/README.md doesn't name it")
     return bad
 
 
@@ -512,7 +537,7 @@ def main(words):
     if kind in (None, "examples"):
         bad += try_examples(pages) if by_try else examples(pages, write)
     if kind in (None, "names"):
-        bad += names(pages)
+        bad += names(pages) + edits()
     if kind in (None, "sentences"):
         bad += sentences(pages)
     print("\n".join(bad) if bad else "pages: nothing is wrong")
