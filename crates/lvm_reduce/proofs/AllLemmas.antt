@@ -74,10 +74,10 @@ module _ (y m p q : ℕ) (N : Descriptor → Type 0) (E : List ℕ) (a b : State
 -- ---- so far
 
 -- These have left, one after the other; or none has so far.
-record Basis (gone : List ℕ) (old now : State) : Type 0 where
-  descriptor : (x : ℕ) → reduced (x ∷ []) now.core.descriptor ≡ reduced (gone ++ x ∷ []) old.core.descriptor
-  strangers : (y : ℕ) → IsTrue (is_in gone y) → is_member now.core.descriptor y ≡ false
-  is : now.core ≡ record old.core {
+pub record Basis (gone : List ℕ) (old now : State) : Type 0 where
+  pub descriptor : (x : ℕ) → reduced (x ∷ []) now.core.descriptor ≡ reduced (gone ++ x ∷ []) old.core.descriptor
+  pub strangers : (y : ℕ) → IsTrue (is_in gone y) → is_member now.core.descriptor y ≡ false
+  pub is : now.core ≡ record old.core {
     descriptor = now.core.descriptor;
     status = now.core.status;
     homes = now.core.homes;
@@ -85,12 +85,12 @@ record Basis (gone : List ℕ) (old now : State) : Type 0 where
     origin = record old.core.origin { table = now.core.origin.table };
     history = now.core.history;
   }
-  entered : List ℕ
-  enters : HasEntered gone entered old now
-  before : (d : ℕ) → IsTrue (is_there now.core d) → IsTrue (is_there old.core d)
-  cuts : now.device.counts.cuts ≡ old.device.counts.cuts
-  still : StillHeld old now
-  fresh : KeepsFresh old now
+  pub entered : List ℕ
+  pub enters : HasEntered gone entered old now
+  pub before : (d : ℕ) → IsTrue (is_there now.core d) → IsTrue (is_there old.core d)
+  pub cuts : now.device.counts.cuts ≡ old.device.counts.cuts
+  pub still : StillHeld old now
+  pub fresh : KeepsFresh old now
 
 none_so_far : (s : State) → Basis [] s s
 none_so_far s = record {
@@ -132,9 +132,9 @@ some_so_far gone old now left =
 
 -- ---- one more
 
-record Entering (all : List ℕ) (old new : State) : Type 0 where
-  disks : List ℕ
-  enters : HasEntered all disks old new
+pub record Entering (all : List ℕ) (old new : State) : Type 0 where
+  pub disks : List ℕ
+  pub enters : HasEntered all disks old new
 
 module _ (gone : List ℕ) (x : ℕ) (out : Leaving) (out_is : out.disk ≡ x) (m p q r : ℕ) (M N : Descriptor → Type 0) (D E : List ℕ) (old now new : State) (basis : Basis gone old now) (group : AreOfOneGroup now.core) (member : IsTrue (is_member now.core.descriptor x))
     (first : LeavesWithin m M [] D p q old now) (second : LeavesWithin 6 N [] E q r now new) (departed : HasDeparted x (Some out) now new)

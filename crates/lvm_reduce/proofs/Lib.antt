@@ -10,5 +10,6 @@ pub mod GivesLemmas
 pub mod LeavingLemmas
 pub mod ListLemmas
 pub mod MarkedLemmas
+pub mod PlanningLemmas
 pub mod RawLemmas
 pub mod TidyingLemmas

@@ -1,6 +1,7 @@
 -- Lists of disks: some of them in their order, and what is kept of others.
-use Rattle.std.proofs.Common.{◌≡◌, ◌⊎◌, inl, inr, ℕ, Bool, true, false, ◌&&◌, ◌||◌, not, List, [], ◌∷◌, ◌++◌, refl, sym, ◌∙◌, ap, subst}
-use Rattle.std.specs.Prelude.{◌==◌, if◌then◌else◌, filter}
+use Rattle.std.proofs.Common.{◌≡◌, ◌⊎◌, inl, inr, ℕ, Bool, true, false, ◌&&◌, ◌||◌, not, List, [], ◌∷◌, ◌++◌, ◌<◌, length, refl, sym, ◌∙◌, ap, subst, arith}
+use Rattle.std.specs.Prelude.{◌==◌, if◌then◌else◌, filter, slice_index_or}
+use Rattle.std.specs.List.{remove}
 use Rattle.lvm_num.specs.declared.descriptor.PvRow.{PvRow}
 use Rattle.lvm_num.specs.declared.descriptor.Descriptor.{Descriptor}
 use Rattle.lvm_num.specs.Disks.{Disks}
@@ -57,3 +58,9 @@ notes_none notes = filter_all notes
 
 pub reduced_more : (gone : List ℕ) (x : ℕ) (d : Descriptor) → reduced (x ∷ []) (reduced gone d) ≡ reduced (gone ++ x ∷ []) d
 reduced_more gone x d = ap (λ (rows : List PvRow). record d { pvs = rows; even = false }) (staying_twice (is_in gone) (is_in (x ∷ [])) d.pvs ∙ (λ t. staying (λ y. sym (in_more gone (x ∷ []) y) t) d.pvs))
+
+-- ---- the head of what is left
+
+pub headed : {X : Type 0} (xs : List X) (x : X) (rest : List X) → 0 < length xs → x ≡ slice_index_or xs 0 x → rest ≡ remove xs 0 → xs ≡ x ∷ rest
+headed [] x rest some is left = absurd (omega arith)
+headed {X} (y ∷ xs) x rest some is left = ap (λ (z : X). z ∷ xs) (sym is) ∙ ap (λ (l : List X). x ∷ l) (sym left)
