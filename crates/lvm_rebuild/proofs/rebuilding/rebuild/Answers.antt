@@ -52,10 +52,10 @@ returns g c =
     let copies : c.as_slice-2.result.now ≡ lost_copies old.core = c.as_slice-2.ensures ∙ c.in_ok-plan.ensures.2 in
     let stand : StandRebuilt (lost_copies old.core) old.core.descriptor new.core.descriptor = subst (λ (l : List VolumeCopy). StandRebuilt l old.core.descriptor new.core.descriptor) copies c.rebuild_all.ensures.stand in
     record {
-      gives = Rebuilds c.in_ok-plan.ensures.0 ((λ t. RebuildsAll (lost t) (copies t) p q old new answer) c.rebuild_all.ensures.rebuilds);
+      gives = Rebuilds c.in_ok-plan.ensures.0 (subst (λ (l : List ℕ). RebuildsAll l (lost_copies old.core) p q old new answer) lost (subst (λ (k : List VolumeCopy). RebuildsAll c.as_slice.result.now k p q old new answer) copies c.rebuild_all.ensures.rebuilds));
       stand = stand;
       alike = stand_alike (lost_copies old.core) old.core.descriptor new.core.descriptor stand;
-      rebuilt = (λ t. IfOk answer (λ count. AreRebuilt (lost t) (copies t) old new)) c.rebuild_all.ensures.rebuilt;
+      rebuilt = subst (λ (l : List ℕ). IfOk answer (λ count. AreRebuilt l (lost_copies old.core) old new)) lost (subst (λ (k : List VolumeCopy). IfOk answer (λ count. AreRebuilt c.as_slice.result.now k old new)) copies c.rebuild_all.ensures.rebuilt);
       closed = λ shut. c.rebuild_all.ensures.closed;
       caused = c.rebuild_all.ensures.caused;
       beside = c.rebuild_all.ensures.beside;
