@@ -92,7 +92,7 @@ fn plan_spare<S: Shelf>(
     ensures refused { IfErr result (RefusesSpare disk on driver.now.1) }
 {
     can_mark(driver)?;
-    check(driver, disk, on)?;
+    check_spare(driver, disk, on)?;
     prepare(alloc, driver, disk, on)
 }
 
@@ -112,7 +112,7 @@ fn can_mark<S: Shelf>(driver: &CommandDriver<S>) -> Result<(), SpareFault>
 }
 
 // What stands against it on a session that takes commands.
-fn check<S: Shelf>(driver: &CommandDriver<S>, disk: u16, on: bool) -> Result<(), SpareFault>
+fn check_spare<S: Shelf>(driver: &CommandDriver<S>, disk: u16, on: bool) -> Result<(), SpareFault>
     requires takes { TakesCommands driver.now.1 }
     ensures may { IfOk result (λ done. MayBeMarked disk on driver.now.1) }
     ensures refused { IfErr result (RefusesSpare disk on driver.now.1) }

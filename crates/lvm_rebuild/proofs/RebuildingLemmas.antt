@@ -337,13 +337,13 @@ choice_cause patience s lost c why is = by (has_numbers s.core) (has_fresh s.cor
 
 -- ---- no copy is left open
 
-pub shut_by : {A : Type 0} (core : Core) (why : RebuildFault) → (core.power ≡ power.On → core.copy ≡ None) → (core.power ≡ power.Stuck → ⊥) → IsLeftShutBy {A = A} core (Err why)
-shut_by core (fault.NoSpare lp) shut unstuck = (shut, unstuck)
-shut_by core (fault.Move why) shut unstuck = shut_err core (Unit {0}) why shut unstuck
+pub shut_by : (A : Type 0) (core : Core) (why : RebuildFault) → (core.power ≡ power.On → core.copy ≡ None) → (core.power ≡ power.Stuck → ⊥) → IsLeftShutBy {A = A} core (Err why)
+shut_by A core (fault.NoSpare lp) shut unstuck = (shut, unstuck)
+shut_by A core (fault.Move why) shut unstuck = shut_err core (Unit {0}) why shut unstuck
 
-pub shut_as : {A B : Type 0} (core : Core) (why : RebuildFault) → IsLeftShutBy {A = A} core (Err why) → IsLeftShutBy {A = B} core (Err why)
-shut_as core (fault.NoSpare lp) shut = shut
-shut_as core (fault.Move why) shut = shut
+pub shut_as : (A B : Type 0) (core : Core) (why : RebuildFault) → IsLeftShutBy {A = A} core (Err why) → IsLeftShutBy {A = B} core (Err why)
+shut_as A B core (fault.NoSpare lp) shut = shut
+shut_as A B core (fault.Move why) shut = shut
 
 -- ---- where it ends
 

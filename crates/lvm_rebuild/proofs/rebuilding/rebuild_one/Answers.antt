@@ -1,4 +1,4 @@
-use Rattle.std.proofs.Common.{◌≡◌, inl, inr, refl, sym, ap}
+use Rattle.std.proofs.Common.{◌≡◌, inl, inr, refl, sym, ap, ◌∙◌}
 use Rattle.std.specs.Prelude.{Err}
 use Rattle.std.proofs.lemmas.Result.{err_from_is_err_and}
 use Rattle.lvm_num.specs.declared.descriptor.Descriptor.{Descriptor}
@@ -12,8 +12,8 @@ use Rattle.lvm_rebuild.proofs.ChoosingLemmas.{chosen, copy_within, may_stand}
 use Rattle.lvm_rebuild.proofs.RebuildingLemmas.{choice_cause, move_cause, shut_by}
 use Rattle.lvm_rebuild.proofs.rebuilding.rebuild_one.Goals as goal
 
-pub choose-to-requires : goal.choose-to-requires
-choose-to-requires g c = copy_within c.args.driver.now.1.descriptor c.args.lost.now c.args.copy c.requires.stands
+pub choose-requires : goal.choose-requires
+choose-requires g c = copy_within c.args.driver.now.1.descriptor c.args.lost.now c.args.copy c.requires.stands
 
 pub returns-in_err-to : goal.returns-in_err-to
 returns-in_err-to g c =
@@ -23,7 +23,7 @@ returns-in_err-to g c =
     let f = err_from_is_err_and c.from_residual.result c.from_residual.ensures.1 in
     rw (f.1, f.2) (record {
       rebuilds = inl (c.in_err-to.ensures.refused, refl, refl);
-      closed = shut_by c.args.driver.now.1 why (λ on. c.requires.none) (λ stuck. let e : power.On ≡ power.Stuck = sym c.requires.on ∙ stuck in cc e);
+      closed = shut_by (Unit {0}) c.args.driver.now.1 why (λ on. c.requires.none) (λ stuck. let e : power.On ≡ power.Stuck = sym c.requires.on ∙ stuck in cc e);
       way = going_none (IsGroupAfter c.args.lost.now c.args.copy c.args.driver.now.1) s;
       stays = refl;
       caused = choice_cause p s c.args.lost.now c.args.copy why c.in_err-to.ensures.refused;
