@@ -4,7 +4,7 @@ use Rattle.std.specs.declared.alloc.Global.{Global}
 use Rattle.std.proofs.lemmas.List.{length-map}
 use Rattle.lvm_num.specs.declared.descriptor.Descriptor.{Descriptor}
 use Rattle.lvm_num.specs.Descriptor.{IsValid}
-use Rattle.lvm_num.specs.declared.memory.Memory.{Memory}
+use Rattle.lvm_num.specs.declared.Memory.{Memory}
 use Rattle.lvm_session.specs.State.{Core, State, state}
 use Rattle.lvm_volumes.specs.Endings.{StillHeld, KeepsFresh}
 use Rattle.lvm_turnover.specs.Changing.{ChangeLeaves, LeavesWithin}
