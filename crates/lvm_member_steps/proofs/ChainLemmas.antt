@@ -6,24 +6,21 @@ use Rattle.lvm_num.specs.declared.place.Pp.{Pp}
 use Rattle.lvm_num.specs.declared.descriptor.LvRow.{LvRow}
 use Rattle.lvm_num.specs.declared.descriptor.Descriptor.{Descriptor}
 use Rattle.lvm_num.specs.Buffer.{Sector}
-use Rattle.lvm_num.specs.DescriptorBytes.{descriptor_bytes}
 use Rattle.lvm_num.specs.Descriptor.{copies_of}
 use Rattle.lvm_num.specs.Among.{IsOneOf}
 use Rattle.lvm_num.specs.Status.{calls_stale, calls_missing}
 use Rattle.lvm_num.proofs.Booleans.{false_by}
 use Rattle.lvm_disk.specs.Counts.{Rose}
 use Rattle.lvm_disk.proofs.CountingLemmas.{none_falls_on}
-use Rattle.lvm_kept.specs.Moments.{Moment}
 use Rattle.lvm_kept.specs.Torn.{RecordWrite}
-use Rattle.lvm_write.specs.Written.{KeepsShelf}
 use Rattle.lvm_write.proofs.PartsLemmas.Transfers.{keeps_then, spends_then}
-use Rattle.lvm_commit.specs.Settling.{there, IsOfSession, StatesGroup, IsOfStatus, IsOfCommit}
-use Rattle.lvm_session.specs.State.{State, is_there, moment_of}
+use Rattle.lvm_commit.specs.Settling.{there, IsOfSession, StatesGroup}
+use Rattle.lvm_session.specs.State.{State, is_there}
 use Rattle.lvm_core.specs.Committing.{is_in}
 use Rattle.lvm_core.specs.Held.{IsHeld}
 use Rattle.lvm_core.specs.Leaves.{NoPartition, WasLeftBehind, MayBeFound}
 use Rattle.lvm_volumes.proofs.Leaving.{rose_on, rose_from, wider}
-use Rattle.lvm_turnover.specs.Changing.{among, IsOfChange, KeepsMarks, LeavesWithin}
+use Rattle.lvm_turnover.specs.Changing.{among, IsOfChange, LeavesWithin}
 use Rattle.lvm_member_steps.specs.Steps.{LeavesIf}
 
 -- ---- more may be done

@@ -1,5 +1,5 @@
 -- A session that comes so far, and then further; and where it breaks off.
-use Rattle.std.proofs.Common.{◌≡◌, ◌⊎◌, inl, inr, ⊎_elim, ℕ, Bool, true, false, ◌&&◌, ◌||◌, not, List, [], ◌∷◌, ◌++◌, Option, None, refl, sym, ◌∙◌, ap, subst}
+use Rattle.std.proofs.Common.{◌≡◌, inl, inr, ⊎_elim, ℕ, Bool, true, false, ◌||◌, not, List, [], ◌∷◌, ◌++◌, Option, None, refl, sym, ◌∙◌, ap, subst}
 use Rattle.std.specs.Prelude.{◌==◌, IsTrue, if◌then◌else◌}
 use Rattle.std.proofs.lemmas.Bool.{false≢true, eqb-true}
 use Rattle.lvm_num.specs.declared.descriptor.PvRow.{PvRow}
@@ -13,7 +13,7 @@ use Rattle.lvm_vol.specs.declared.entry.Vol.TheVariants.{Disk}
 use Rattle.lvm_vol.specs.Facts.{Removed}
 use Rattle.lvm_vol.specs.Log.{Log, with_fact}
 use Rattle.lvm_write.proofs.PartsLemmas.Transfers.{spends_then, spends_none}
-use Rattle.lvm_session.specs.State.{Core, State, is_there}
+use Rattle.lvm_session.specs.State.{Core, State}
 use Rattle.lvm_core.specs.declared.fault.CommitFault.{CommitFault}
 use Rattle.lvm_core.specs.declared.fault.CommitFault.TheVariants as fault
 use Rattle.lvm_core.specs.Committing.{is_in}
@@ -27,7 +27,7 @@ use Rattle.lvm_turnover.specs.declared.change.Leaving.{Leaving}
 use Rattle.lvm_turnover.specs.Changing.{LeavesWithin}
 use Rattle.lvm_member_plan.specs.Descriptors.{IsReducedBy, IsOnTheWay}
 use Rattle.lvm_member_plan.specs.Steps.{IsStep}
-use Rattle.lvm_member_steps.specs.Steps.{with_removed, HasComeSoFar, HasComeTo, WentOffBetween, BreaksFrom, BreaksOffSoFar, HasStepped}
+use Rattle.lvm_member_steps.specs.Steps.{with_removed, HasComeSoFar, BreaksFrom, BreaksOffSoFar, HasStepped}
 
 -- ---- members that are named
 

@@ -1,17 +1,13 @@
 -- Once a step is made the disks hold what the session says, where they did, and each logical partition keeps a fresh copy.
-use Rattle.std.proofs.Common.{◌≡◌, ◌⊎◌, inl, inr, ⊎_elim, ℕ, Bool, true, false, ◌&&◌, ◌||◌, not, List, [], ◌∷◌, Option, Some, None, IfSome, refl, sym, ◌∙◌, ap, subst, arith}
+use Rattle.std.proofs.Common.{◌≡◌, inl, inr, ⊎_elim, ℕ, Bool, true, false, ◌&&◌, not, List, [], ◌∷◌, Option, Some, None, IfSome, refl, sym, ◌∙◌, ap, subst, arith}
 use Rattle.std.specs.Prelude.{◌==◌, IsTrue, IsFalse, if◌then◌else◌, find, filter}
 use Rattle.std.specs.Option.{option_map_or}
 use Rattle.std.proofs.lemmas.Bool.{false≢true, and_parts, eqb-true}
-use Rattle.lvm_num.specs.declared.place.Pp.{Pp}
 use Rattle.lvm_num.specs.declared.descriptor.LvRow.{LvRow}
 use Rattle.lvm_num.specs.declared.descriptor.Descriptor.{Descriptor}
 use Rattle.lvm_num.specs.Buffer.{Sector}
-use Rattle.lvm_num.specs.Descriptor.{is_member, volume_of, copies_of}
-use Rattle.lvm_num.specs.DescriptorBytes.{descriptor_bytes}
-use Rattle.lvm_num.specs.Among.{IsOneOf}
-use Rattle.lvm_num.specs.Status.{calls_missing, calls_stale}
-use Rattle.lvm_num.proofs.AmongLemmas.{any_one}
+use Rattle.lvm_num.specs.Descriptor.{is_member, volume_of}
+use Rattle.lvm_num.specs.Status.{calls_missing}
 use Rattle.lvm_num.proofs.Booleans.{or_false}
 use Rattle.lvm_disk.specs.Device.{Media, image_of}
 use Rattle.lvm_kept.specs.Contents.{note_sector}
@@ -23,19 +19,17 @@ use Rattle.lvm_status.specs.passed.Status.{IsLeftIn}
 use Rattle.lvm_commit.specs.LawsOfVolumes.{IsOnlyGroupOn}
 use Rattle.lvm_commit.specs.Settling.{there, MarksLeft, NoneIsLeft}
 use Rattle.lvm_commit.proofs.AmongLemmas.{one_place}
-use Rattle.lvm_session.specs.Judging.{copies_in, is_wanted_stale}
 use Rattle.lvm_session.specs.State.{Core, State, is_there}
 use Rattle.lvm_core.specs.Committing.{HasStated, is_in}
 use Rattle.lvm_core.specs.Held.{NotesAreHome, AreNotesHome}
-use Rattle.lvm_core.specs.Leaves.{IsOfCommand, NoPartition, MayBeFound}
+use Rattle.lvm_core.specs.Leaves.{NoPartition, MayBeFound}
 use Rattle.lvm_change_laws.proofs.StayingLemmas.{staying_member}
 use Rattle.lvm_turnover.specs.declared.change.Leaving.{Leaving}
 use Rattle.lvm_turnover.specs.Turning.{cache_after, disks_leaving, state_after}
 use Rattle.lvm_turnover.specs.Changing.{IsNext, IsOfChange, among, LeavesWithin}
-use Rattle.lvm_volumes.specs.Endings.{StillHeld, KeepsFresh, HasFresh}
+use Rattle.lvm_volumes.specs.Endings.{StillHeld, KeepsFresh}
 use Rattle.lvm_volumes.proofs.EndingsLemmas.Fresh.{HasOnePlaceEach, no_copy, volume_stays}
 use Rattle.lvm_volumes.proofs.EndingsLemmas.Notes.{SparesNotes, command_spares, notes_stay}
-use Rattle.lvm_member_plan.specs.Descriptors.{without_members}
 use Rattle.lvm_member_plan.specs.Steps.{IsStep}
 
 -- ---- notes

@@ -1,18 +1,18 @@
 -- When a step may be made, and how it ends.
-use Rattle.std.proofs.Common.{◌≡◌, ◌⊎◌, inl, inr, ⊎_elim, ℕ, Bool, true, false, ◌&&◌, not, List, [], ◌∷◌, if◌then◌else◌, refl, sym, ◌∙◌, ap, subst}
+use Rattle.std.proofs.Common.{◌≡◌, ◌⊎◌, inl, inr, ⊎_elim, ℕ, Bool, true, false, ◌&&◌, not, List, [], ◌∷◌, if◌then◌else◌, refl, sym, ◌∙◌, ap}
 use Rattle.std.specs.Prelude.{Option, Result, Ok, Err, IsTrue}
 use Rattle.std.proofs.lemmas.Bool.{false≢true}
 use Rattle.lvm_num.specs.declared.descriptor.PvRow.{PvRow}
 use Rattle.lvm_num.specs.declared.descriptor.Descriptor.{Descriptor}
 use Rattle.lvm_num.specs.Disks.{Disks}
-use Rattle.lvm_num.specs.Descriptor.{IsValid, is_member}
-use Rattle.lvm_num.specs.Votes.{CanWrite, votes_in, total_votes, is_enough_to_write}
+use Rattle.lvm_num.specs.Descriptor.{is_member}
+use Rattle.lvm_num.specs.Votes.{CanWrite}
 use Rattle.lvm_num.specs.Status.{calls_missing}
 use Rattle.lvm_disk.specs.Device.{IsReady}
 use Rattle.lvm_disk.proofs.CountingLemmas.{none_falls_at_once}
 use Rattle.lvm_write.proofs.PartsLemmas.Transfers.{spends_none}
 use Rattle.lvm_commit.specs.Settling.{MarksLeft}
-use Rattle.lvm_session.specs.State.{Core, State, is_there}
+use Rattle.lvm_session.specs.State.{State, is_there}
 use Rattle.lvm_core.specs.declared.fault.CommitFault.{CommitFault}
 use Rattle.lvm_core.specs.declared.fault.CommitFault.TheVariants as fault
 use Rattle.lvm_core.specs.Committing.{is_in}

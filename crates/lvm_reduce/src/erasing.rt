@@ -43,6 +43,7 @@ pub(crate) fn erase<S: Shelf>(
     // whatever the answer, where the disk shows a descriptor of the group and that slot holds the older one
     ensures keeps { EraseKeeps disk (slot_number second_is_older) patience.old.left patience.new.left (state_of S.device driver) (state_of S.device result.0) }
 {
+    // What the disk shows meanwhile is a law.
     newest_is_shown_or_none();
     let mut driver = driver;
     driver.enter(Entry::Removed {
