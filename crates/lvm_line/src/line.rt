@@ -10,6 +10,7 @@ ghost use Rattle.lvm_volume_lines.specs.passed.GroupLines.{IsBetweenStage, IsFit
 use lvm_core::Room;
 use lvm_disk::{Arrange, Shelf};
 use lvm_io::Clock;
+use lvm_member_lines::do_reducevg;
 use lvm_move_lines::do_migratepv;
 use lvm_parse::{Command, ParseFault, parse};
 use lvm_volume_lines::below::disk_lines::{do_arrange, do_cut, do_read, do_write};
@@ -18,7 +19,6 @@ use lvm_volume_lines::below::group_lines::{
 };
 use lvm_volume_lines::below::range_lines::{do_post, do_rd, do_step, do_wait, do_wr};
 use lvm_volume_lines::below::stage::{Answered, Refusal, Reply, Stage};
-use lvm_member_lines::do_reducevg;
 use lvm_volume_lines::{
     do_chvg_big, do_chvg_quorum, do_mklv, do_mklvcopy, do_rmlv, do_rmlvcopy, do_splitlvcopy,
     do_sync_group, do_sync_volume, do_varyoff,

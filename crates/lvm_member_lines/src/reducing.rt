@@ -16,8 +16,8 @@ use lvm_member_plan::ReduceFault;
 use lvm_num::Name;
 use lvm_reduce::{Reduced, reducevg};
 use lvm_transfer::Patience;
-use lvm_volume_lines::below::{GroupFault, Post};
 use lvm_volume_lines::below::stage::{Answered, Refusal, Reply, Stage};
+use lvm_volume_lines::below::{GroupFault, Post};
 use lvm_volume_lines::{close_after, come_to_rest, drain_refusal, go_on};
 use std::alloc::Global;
 

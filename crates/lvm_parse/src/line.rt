@@ -10,8 +10,8 @@ use crate::operands::misfit;
 use crate::operands_line::{is_remark, unreadable_at};
 use crate::rest::{Misfit, Rest, Word};
 use crate::rules::{
-    chvg, cut, fail, heal, lslv, lspv, lsvg, migratepv, mklv, mklvcopy, mkvg, post, rd, reducevg, rmlv,
-    rmlvcopy, splitlvcopy, step, syncvg, varyoffvg, varyonvg, wait, wr,
+    chvg, cut, fail, heal, lslv, lspv, lsvg, migratepv, mklv, mklvcopy, mkvg, post, rd, reducevg,
+    rmlv, rmlvcopy, splitlvcopy, step, syncvg, varyoffvg, varyonvg, wait, wr,
 };
 use crate::scan::next_word;
 use std::alloc::Global;
