@@ -1,9 +1,11 @@
 -- Worked sessions which members may leave.
 use Rattle.std.proofs.Common.{ℕ, refl, arith}
 use Rattle.lvm_num.specs.declared.descriptor.Mode.{Mode}
+use Rattle.lvm_num.specs.Votes.{votes_by}
 use Rattle.lvm_reduce.specs.Examples.{ThirdMayLeave, MembersMayLeave}
 
 third_may_leave : (m : Mode) → ThirdMayLeave m
+unfolding votes_by
 third_may_leave m = record {
   third = record { takes = record { on = refl; requests = refl }; free = record { members = refl; some_stay = refl; unused = refl }; few = omega arith; votes = refl; room = record { entries = omega arith; numbers = omega arith } };
   used = (record { on = refl; requests = refl }, (refl, refl, refl));

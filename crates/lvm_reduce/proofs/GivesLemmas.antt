@@ -1,14 +1,20 @@
 -- What the command answers, by how the writing of records ended.
-use Rattle.std.proofs.Common.{◌≡◌, inl, inr, ℕ, Bool, true, false, List, refl, sym, subst}
+use Rattle.std.proofs.Common.{◌≡◌, inl, inr, ⊎_elim, ℕ, ◌+◌, ◌*◌, ◌<◌, ◌≤◌, ◌^◌, ◌-◌, Bool, true, false, List, length, None, refl, sym, subst, arith}
 use Rattle.std.specs.Prelude.{⊤, MatchBool, Result, Ok, Err}
-use Rattle.lvm_session.specs.State.{State}
+use Rattle.lvm_num.specs.Descriptor.{volume_of}
+use Rattle.lvm_num.proofs.DescriptorLemmas.Bounds.{few_members}
+use Rattle.lvm_session.specs.State.{Core, State}
 use Rattle.lvm_core.specs.declared.fault.CommitFault.{CommitFault}
 use Rattle.lvm_core.specs.declared.fault.CommitFault.TheVariants as commit
 use Rattle.lvm_core.specs.Settled.{IsSettled}
-use Rattle.lvm_volumes.specs.Endings.{StillHeld, KeepsFresh}
+use Rattle.lvm_volume_plan.specs.PlannedVolume.{AreOfOneGroup}
+use Rattle.lvm_volumes.specs.Endings.{HasFresh, StillHeld, KeepsFresh}
+use Rattle.lvm_volumes.proofs.EndingsLemmas.Fresh.{no_copy}
+use Rattle.lvm_volumes.proofs.StagesLemmas.Entering.{many_bound}
 use Rattle.lvm_member_plan.specs.declared.fault.ReduceFault.{ReduceFault}
 use Rattle.lvm_member_plan.specs.declared.fault.ReduceFault.TheVariants as fault
 use Rattle.lvm_member_plan.specs.Refusals.{MayReduce, RefusesReduce}
+use Rattle.lvm_reduce.specs.Departures.{HasNumbersFor}
 use Rattle.lvm_reduce.specs.Answers.{IfOn, IsAnswerOf, IsOfRecords, LeaveEnds, ReduceGives, is_over}
 
 -- ---- refused
@@ -36,6 +42,13 @@ if_on answer P holds = by (is_over answer)
 
 pub nothing_still : (s : State) → StillHeld s s
 nothing_still s = record { held = λ held. held; notes = λ home. home; only = λ held only. only; left = λ none. none }
+
+pub nothing_fresh : (s : State) → KeepsFresh s s
+nothing_fresh s lv lp pp one how = ⊎_elim (λ (none : volume_of s.core.descriptor lv ≡ None). absurd (no_copy s.core.descriptor lv lp pp none one)) (λ (fresh : HasFresh s.core lv lp). fresh) how
+
+-- there are numbers for all of them
+pub enough_numbers : (core : Core) (disks : List ℕ) (n : ℕ) → AreOfOneGroup core → MayReduce disks core → n ≡ length disks → HasNumbersFor (2 * n) core
+enough_numbers core disks n group may is = let many = many_bound core group.valid group.status in omega (arith, many, is, may.few, may.room.numbers, group.valid.head.members, few_members core.descriptor.big)
 
 -- ---- carried out
 
