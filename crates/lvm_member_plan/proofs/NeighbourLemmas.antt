@@ -1,15 +1,16 @@
 -- A group and the one without one of its members are neighbours, by the votes of both.
-use Rattle.std.proofs.Common.{◌≡◌, ◌≢◌, ◌⊎◌, inl, inr, ℕ, zero, suc, ◌<◌, ◌≤◌, Bool, true, false, ◌||◌, not, List, [], ◌∷◌, ◌++◌, length, get_or, map, refl, sym, ◌∙◌, ap, arith}
+use Rattle.std.proofs.Common.{◌≡◌, ◌≢◌, ◌⊎◌, inl, inr, ℕ, zero, suc, ◌<◌, ◌≤◌, ◌+◌, Bool, true, false, ◌||◌, not, List, [], ◌∷◌, ◌++◌, length, get_or, map, refl, sym, ◌∙◌, ap, subst, arith}
 use Rattle.std.specs.Prelude.{◌==◌, IsTrue, if◌then◌else◌, AllPairs}
 use Rattle.std.specs.List.{list_any}
 use Rattle.std.proofs.lemmas.Bool.{eqb-true, ne_eqb, false≢true}
+use Rattle.std.proofs.lemmas.List.{length-append}
 use Rattle.lvm_num.specs.declared.descriptor.PvRow.{PvRow}
 use Rattle.lvm_num.specs.declared.descriptor.Descriptor.{Descriptor}
 use Rattle.lvm_num.specs.Descriptor.{IsValid}
-use Rattle.lvm_num.proofs.Booleans.{or_false}
+use Rattle.lvm_num.proofs.Booleans.{or_false, same_turned}
 use Rattle.lvm_num.proofs.Lists.{pairs_head, pairs_tail}
 use Rattle.lvm_core.specs.Committing.{is_in}
-use Rattle.lvm_change_votes.specs.Meeting.{AreNeighbours, HasMembers}
+use Rattle.lvm_change_votes.specs.Meeting.{AreNeighbours, HasMembers, disks_of}
 use Rattle.lvm_change_votes.proofs.MeetingLemmas.{same_members_meet, one_more_meets, lasting_meets}
 use Rattle.lvm_change_laws.specs.Rule.{staying}
 use Rattle.lvm_member_plan.specs.Descriptors.{is_head, is_first, without_members, with_even}

@@ -1,6 +1,6 @@
 -- The steps by which a member leaves are steps between neighbours.
-use Rattle.std.proofs.Common.{◌≡◌, ◌⊎◌, inl, inr, ℕ, zero, suc, ◌<◌, ◌≤◌, Bool, true, false, List, [], ◌∷◌, length, get_or, Some, None, refl, sym, ◌∙◌, ap, arith}
-use Rattle.std.specs.Prelude.{◌==◌, All}
+use Rattle.std.proofs.Common.{◌≡◌, ◌≢◌, ◌⊎◌, inl, inr, ℕ, zero, suc, ◌<◌, ◌≤◌, ◌+◌, Bool, true, false, ◌||◌, not, List, [], ◌∷◌, length, get_or, Some, None, refl, sym, ◌∙◌, ap, subst, arith}
+use Rattle.std.specs.Prelude.{◌==◌, IsTrue, IsFalse, All, AllPairs}
 use Rattle.std.specs.List.{list_any}
 use Rattle.std.proofs.lemmas.Bool.{eqb-true, false≢true}
 use Rattle.std.proofs.lemmas.List.Elements.{All-append}
@@ -8,10 +8,14 @@ use Rattle.lvm_num.specs.declared.place.Pp.{Pp}
 use Rattle.lvm_num.specs.declared.descriptor.PvRow.{PvRow}
 use Rattle.lvm_num.specs.declared.descriptor.LvRow.{LvRow}
 use Rattle.lvm_num.specs.declared.descriptor.Descriptor.{Descriptor}
-use Rattle.lvm_num.specs.Descriptor.{IsValid, partitions_in, partitions_used}
+use Rattle.lvm_num.specs.Descriptor.{IsValid, is_member, partitions_in, partitions_used}
 use Rattle.lvm_num.proofs.Booleans.{or_false, first_fails, second_fails}
+use Rattle.lvm_core.specs.Committing.{is_in}
+use Rattle.lvm_change_votes.specs.Meeting.{AreNeighbours}
+use Rattle.lvm_change_laws.specs.Rule.{staying}
 use Rattle.lvm_change_laws.proofs.StayingLemmas.{all_stay}
-use Rattle.lvm_member_plan.specs.Descriptors.{without_members, with_even, reduced, is_first}
+use Rattle.lvm_member_plan.specs.declared.steps.StepsOut.{StepsOut}
+use Rattle.lvm_member_plan.specs.Descriptors.{without_members, with_even, reduced, is_first, is_used}
 use Rattle.lvm_member_plan.specs.Steps.{IsStep, MayDepart, AreStepsOut}
 use Rattle.lvm_member_plan.proofs.ValidityLemmas.{without_valid, even_valid}
 use Rattle.lvm_member_plan.proofs.NeighbourLemmas.{IsSplitAt, split_at, even_near, without_near}

@@ -1,5 +1,5 @@
 -- The steps by which one member leaves its group.
-use Rattle.std.specs.Prelude.{◌≡◌, ◌⊎◌, ℕ, false, List, [], ◌∷◌, None, IfSome, IsTrue, unwrap_or}
+use Rattle.std.specs.Prelude.{◌≡◌, ◌⊎◌, ℕ, true, false, List, [], ◌∷◌, None, IfSome, IsTrue, unwrap_or}
 use Rattle.lvm_num.specs.declared.descriptor.Descriptor.{Descriptor}
 use Rattle.lvm_num.specs.Descriptor.{IsValid, is_member}
 use Rattle.lvm_change_votes.specs.Meeting.{AreNeighbours}

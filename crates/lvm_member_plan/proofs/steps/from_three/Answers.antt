@@ -1,6 +1,6 @@
 use Rattle.std.proofs.Common.{[], ◌∷◌, None, Some, true, sym, subst}
 use Rattle.lvm_num.specs.declared.descriptor.Descriptor.{Descriptor}
-use Rattle.lvm_member_plan.specs.Descriptors.{without_members}
+use Rattle.lvm_member_plan.specs.Descriptors.{without_members, reduced}
 use Rattle.lvm_member_plan.specs.Steps.{AreStepsOut}
 use Rattle.lvm_member_plan.proofs.StepsLemmas.{from_three}
 use Rattle.lvm_member_plan.proofs.steps.from_three.Goals as goal
