@@ -1,0 +1,3 @@
+pub mod JoiningLemmas
+pub mod OneByOneLemmas
+pub mod JudgedLemmas

@@ -1,0 +1,4 @@
+pub mod Descriptors
+pub mod Judged
+pub mod Refusals
+pub mod Steps
