@@ -8,7 +8,7 @@ use Rattle.lvm_session.specs.State.{Core, State}
 use Rattle.lvm_move_plan.specs.Planned.{planned_moves}
 use Rattle.lvm_migrate.specs.declared.fault.MoveFault.{MoveFault}
 use Rattle.lvm_migrate.specs.declared.fault.MoveFault.TheVariants as fault
-use Rattle.lvm_migrate.specs.Migrating.{GoesBesideMoving, IsLeftEmpty, MigrateGives, MoveCause, StandMoved}
+use Rattle.lvm_migrate.specs.Migrating.{AreFreshBut, GoesBesideMoving, IsLeftEmpty, MigrateGives, MoveCause, StandMoved}
 use Rattle.lvm_migrate.specs.Committed.{MovesAsPlanned}
 use Rattle.lvm_range_lines.specs.Leaving.{FailsIf, session_over}
 use Rattle.lvm_range_lines.specs.passed.GroupLines.{IsRefused, Refusal, Reply, ScriptState, is_unheard, patience_of_line}
@@ -37,6 +37,19 @@ abbrev pub move_reply : Result ℕ MoveFault → Reply
 move_reply (Ok moved) = reply.Migrated moved
 move_reply (Err why) = reply.Refused (move_refusal why)
 
+-- The replies behind which copies may have moved: all of them have, or one wasn't to move any more. By the others something stood against the plan.
+abbrev pub MayHaveMoved : Reply → Type 0
+MayHaveMoved (reply.Migrated moved) = Unit {0}
+MayHaveMoved (reply.Refused refusal.Dark) = Unit {0}
+MayHaveMoved (reply.Refused (refusal.WentOff have total)) = Unit {0}
+MayHaveMoved (reply.Refused refusal.Stuck) = Unit {0}
+MayHaveMoved (reply.Refused (refusal.Missing disk)) = Unit {0}
+MayHaveMoved (reply.Refused refusal.HistoryFull) = Unit {0}
+MayHaveMoved (reply.Refused (refusal.SyncFailed disk)) = Unit {0}
+MayHaveMoved (reply.Refused (refusal.NoFresh lp)) = Unit {0}
+MayHaveMoved (reply.Refused refusal.Memory) = Unit {0}
+MayHaveMoved other = ⊥
+
 -- In a group without volumes no copy is there to move: the second disk is missing, the numbers of stamps are short, or none has moved.
 abbrev pub empty_reply : Core → ℕ → Reply
 empty_reply core to = if calls_missing core.status.committed to then reply.Refused (refusal.Missing to) else if has_numbers core then reply.Migrated 0 else reply.Refused refusal.HistoryFull
@@ -48,19 +61,24 @@ pub data EmptyAnswers (core : Core) (volume : Option (List ℕ)) (from to : ℕ)
 
 -- ---- the line
 
--- The copies of the session that is on have moved as they are planned, with the patience of a line, or none or not all of them for this reason; and so it goes on, or
--- is closed.
+-- From one moment of a session to a later one the copies have moved as they are planned, or none or not all of them for this reason: which have, what happened
+-- meanwhile, that none which was asked for is left where all have, and is fresh; and that the session is on then.
+pub record SessionMigrates (lv : Option ℕ) (from to left : ℕ) (old new : State) (result : Result ℕ MoveFault) : Type 0 where
+  pub gives : MigrateGives lv from to patience_of_line left old new result
+  pub stand : StandMoved (planned_moves old.core.descriptor lv from to) old.core.descriptor new.core.descriptor result
+  pub beside : GoesBesideMoving old new patience_of_line left
+  pub way : MovesAsPlanned (planned_moves old.core.descriptor lv from to) old new
+  pub empty : IfOk result (λ moved. IsLeftEmpty lv from new.core.descriptor)
+  pub fresh : IfOk result (λ moved. AreFreshBut (planned_moves old.core.descriptor lv from to) old new)
+  pub caused : IfErr result (MoveCause patience_of_line old new)
+  pub on : IfOk result (λ moved. new.core.power ≡ power.On)
+
+-- So it was in the session that is on, with the patience of a line; and so it goes on, or is closed.
 pub record IsMigrated (lv : Option ℕ) (from to : ℕ) (core : Core) (old new : ScriptState) (answer : Reply) : Type 0 where
   pub end : State
   pub left : ℕ
   pub result : Result ℕ MoveFault
-  pub gives : MigrateGives lv from to patience_of_line left (session_over old core) end result
-  pub stand : StandMoved (planned_moves core.descriptor lv from to) core.descriptor end.core.descriptor result
-  pub beside : GoesBesideMoving (session_over old core) end patience_of_line left
-  pub way : MovesAsPlanned (planned_moves core.descriptor lv from to) (session_over old core) end
-  pub empty : IfOk result (λ moved. IsLeftEmpty lv from end.core.descriptor)
-  pub caused : IfErr result (MoveCause left (session_over old core) end)
-  pub on : IfOk result (λ moved. end.core.power ≡ power.On)
+  pub session : SessionMigrates lv from to left (session_over old core) end result
   pub sound : IsSound end
   pub leaves : FailsIf (is_unheard answer) end old.posts old.last new
   pub says : answer ≡ move_reply result

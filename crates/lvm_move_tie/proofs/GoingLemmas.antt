@@ -42,7 +42,7 @@ use Rattle.lvm_tie.specs.Tied.{IsGood, IsTied}
 use Rattle.lvm_tie.proofs.OverLemmas.Landings.{land_all}
 use Rattle.lvm_move_tie.specs.Going.{CommitMoveFinds, CommitMoveGoesOn}
 use Rattle.lvm_move_tie.specs.Taking.{next_group}
-use Rattle.lvm_move_tie.specs.Tying.{LostShowGroup, MoveTies}
+use Rattle.lvm_move_tie.specs.Tying.{MoveTies}
 use Rattle.lvm_move_tie.proofs.HeldLemmas.{of_group, session_held}
 use Rattle.lvm_move_tie.proofs.OverLemmas.{KeepsAt, dark_holds, off_holds, on_kept, reads_hold_there}
 use Rattle.lvm_move_tie.proofs.TyingLemmas.{IsCommittedTo, base, core2, spares2, tied2}
@@ -83,7 +83,7 @@ module _ (s : State) (c : OpenCopy) (sound : IsSound s) (drained : IsDrainedMovi
 -- ---- the tie
 
 module _ (past : List Fact) (s new : State) (c : OpenCopy) (content : List ℕ) (before after : ℕ) (tied : IsTied past s) (drained : IsDrainedMoving s c) (spares : SparesDescriptors s) (reads_it : descriptor_of content ≡ Ok (next_group s c))
-    (w : WritesMove (next_group s c) content before after s new (Ok tt)) (sound : IsSound new) (sectors : HasSectors new.device) (lost : LostShowGroup s.core.descriptor s.core.status new.core.status new.device) where
+    (w : WritesMove (next_group s c) content before after s new (Ok tt)) (sound : IsSound new) (sectors : HasSectors new.device) where
   by_end : (how : CommitEnd) → MoveEnds (next_group s c) w.last w.homes s.core new.core how (Ok tt) → DescriptorEnds content 0 before s.core.status w.last s.core.homes w.homes s.device new.device how → IsTied past new × SparesDescriptors new
   by_end (commit_end.WentOff have total back) goes ends = absurd (cc goes.0)
   by_end commit_end.Dark goes ends = absurd (cc goes.0)
@@ -94,14 +94,14 @@ module _ (past : List Fact) (s new : State) (c : OpenCopy) (content : List ℕ) 
       let whole : new ≡ state new.device (core2 past s c tied drained spares content before after w.last w.homes new.device is new.core.status) = (λ t. state new.device (review.is t)) in
       let reviewed : Reviews (base past s c tied drained spares content before after w.last w.homes new.device is new.core.status) (core2 past s c tied drained spares content before after w.last w.homes new.device is new.core.status) = record { marks = review.marks; is = refl } in
       let sound2 = subst IsSound whole sound in (
-        subst (IsTied past) (sym whole) (tied2 past s c tied drained spares content before after w.last w.homes new.device is new.core.status reviewed sound2 sectors lost),
-        subst SparesDescriptors (sym whole) (spares2 past s c tied drained spares content before after w.last w.homes new.device is new.core.status reviewed sound2 sectors lost),
+        subst (IsTied past) (sym whole) (tied2 past s c tied drained spares content before after w.last w.homes new.device is new.core.status reviewed sound2 sectors),
+        subst SparesDescriptors (sym whole) (spares2 past s c tied drained spares content before after w.last w.homes new.device is new.core.status reviewed sound2 sectors),
       )
 
 pub move_ties : MoveTies
-move_ties past s new c content before after tied drained spares reads_it commits sound sectors lost =
+move_ties past s new c content before after tied drained spares reads_it commits sound sectors =
     let w = written s c tied.orderly.sound drained tied.recorded.next.some_epoch content before after new (Ok tt) commits in
-    by_end past s new c content before after tied drained spares reads_it w sound sectors lost w.how w.goes w.ends
+    by_end past s new c content before after tied drained spares reads_it w sound sectors w.how w.goes w.ends
 
 -- ---- what is found
 
@@ -158,7 +158,7 @@ module _ (run : ℕ) (s : State) (c : OpenCopy) (before after : ℕ) (answer : R
   not_on : (x : State) (p : Power) → x.core.power ≡ p → (p ≡ power.On → ⊥) → IsGood run first x
   not_on x p is off on past begins = absurd (off (sym is ∙ on))
 
-  module _ (new : State) (is : new ≡ state device (closed_after answer written_.core)) (sound_new : IsSound new) (sectors : HasSectors new.device) (lost : answer ≡ Ok tt → LostShowGroup s.core.descriptor s.core.status new.core.status new.device)
+  module _ (new : State) (is : new ≡ state device (closed_after answer written_.core)) (sound_new : IsSound new) (sectors : HasSectors new.device)
       (commits : CommitsMove (next_group s c) content before after s written_ answer) where
     -- by the answer it is this
     new_is : (a : Result (Unit {0}) CommitFault) → answer ≡ a → new ≡ state device (closed_after a written_.core)
@@ -173,7 +173,7 @@ module _ (run : ℕ) (s : State) (c : OpenCopy) (before after : ℕ) (answer : R
             let none : closed written_.core ≡ written_.core = (λ t. closed (core_is t)) ∙ sym core_is in
             let same : new ≡ written_ = new_is (Ok tt) goes.0 ∙ ap (λ (x : Core). state device x) none in
             let ok : CommitsMove (next_group s c) content before after s new (Ok tt) = subst (λ (x : State). CommitsMove (next_group s c) content before after s x (Ok tt)) (sym same) (subst (λ (a : Result (Unit {0}) CommitFault). CommitsMove (next_group s c) content before after s written_ a) goes.0 commits) in (
-              λ on past begins. (move_ties past s new c content before after (tied past begins) drained spares (reads s c sound drained epoch) ok sound_new sectors (lost goes.0)).0,
+              λ on past begins. (move_ties past s new c content before after (tied past begins) drained spares (reads s c sound drained epoch) ok sound_new sectors).0,
               λ span. subst (λ (x : State). Keeps run first (moment_of x)) (sym same) (subst (λ (l : List Fact). Keeps run first (at device l)) (sym (ap (λ (x : Core). x.history.facts) core_is)) (over_steps span)),
             )
         by (commit_end.WentOff have total back) goes =
@@ -193,8 +193,8 @@ module _ (run : ℕ) (s : State) (c : OpenCopy) (before after : ℕ) (answer : R
             )
 
 pub commit_move_goes_on : CommitMoveGoesOn
-commit_move_goes_on run s new c before after answer sound sound_new drained epoch spares commits lost first good =
+commit_move_goes_on run s new c before after answer sound sound_new drained epoch spares commits first good =
     let d_is = ready_is s c sound drained epoch commits.next commits.ready in
     let it = subst (λ (d : Descriptor). CommitsMove d (descriptor_bytes d) before after s commits.written answer) d_is commits.commits in
     let w = written s c sound drained epoch (descriptor_bytes (next_group s c)) before after commits.written answer it in
-    goes_on run s c before after answer commits.written sound drained epoch spares w first good new commits.is sound_new commits.sectors lost it
+    goes_on run s c before after answer commits.written sound drained epoch spares w first good new commits.is sound_new commits.sectors it

@@ -35,14 +35,13 @@ use Rattle.lvm_kept.specs.Kept.{Kept}
 use Rattle.lvm_kept.specs.Plans.{ChangesBy}
 use Rattle.lvm_kept.proofs.ChangesLemmas.Entries.{volume_is_row}
 use Rattle.lvm_kept.proofs.CommittedLemmas.Finding.{images_within}
-use Rattle.lvm_steps.proofs.GroupLemmas.Members.{member_of_parts}
+use Rattle.lvm_steps.proofs.GroupLemmas.Members.{member_of_parts, parts_of}
 use Rattle.lvm_steps.proofs.MakingLemmas.Making.{media_may}
 use Rattle.lvm_rec.specs.declared.homes.Homes.{Homes}
 use Rattle.lvm_status.specs.Update.{Stored, members_there, seen, Updates}
 use Rattle.lvm_commit.specs.Committed.{HoldsCommitted, next_stamp}
 use Rattle.lvm_commit.specs.LawsOfVolumes.{LeavesOthers}
-use Rattle.lvm_commit.specs.Settling.{ComesHeld, CommitLeaves, EndsCommitted, HasAnother, IsOfCommit, IsPassedOver, IsPlain, OthersAreLeft, SessionIsHeld, there}
-use Rattle.lvm_commit.proofs.LawsLemmas.Found.{shows_group}
+use Rattle.lvm_commit.specs.Settling.{ComesHeld, CommitLeaves, EndsCommitted, HasAnother, IsOfCommit, IsPassedOver, IsPlain, MembersAreLeft, OthersAreLeft, SessionIsHeld, there}
 use Rattle.lvm_mwc.specs.Cache.{flight_on}
 use Rattle.lvm_session.specs.declared.bringing.OpenCopy.{OpenCopy}
 use Rattle.lvm_session.specs.declared.flown.Owner.TheVariants as owner
@@ -74,7 +73,6 @@ use Rattle.lvm_tie.proofs.WantedLemmas.Reviewing.{review_is_wanted}
 use Rattle.lvm_crash.specs.Owned.{OnlyUpdateSince}
 use Rattle.lvm_move_tie.specs.Restating.{MayRestate, Restatement, restated}
 use Rattle.lvm_move_tie.specs.Taking.{next_group}
-use Rattle.lvm_move_tie.specs.Tying.{LostShowGroup}
 use Rattle.lvm_move_tie.proofs.ChangesLemmas.{blocks_stay, descriptor_stays, notes_stay}
 use Rattle.lvm_move_tie.proofs.HeldLemmas.{members as members_show, of_group, session_held}
 use Rattle.lvm_move_tie.proofs.OverLemmas.{KeepsAt, described, good_w, no_step, on_kept, only, w as w_of}
@@ -87,6 +85,12 @@ is_that n m = by (n == m) refl
     by : (t : Bool) → (n == m) ≡ t → (n ≡ m) ⊎ (n ≡ m → ⊥)
     by true is = inl (eqb-true n m is)
     by false is = inr (λ e. clash_gives (n == m) (subst (λ (i : ℕ). (n == i) ≡ true) e (eq-eqb n n refl)) is)
+
+-- what is so of both shelves' media is so of those that they tell
+of_both : (old new : Option Media) (R : Media → Media → Type 0) (was is : Media) → old ≡ Some was → new ≡ Some is → BothTold old new R → R was is
+of_both None new R was is told now both = absurd (cc told)
+of_both (Some x) None R was is told now both = absurd (cc now)
+of_both (Some x) (Some y) R was is told now both = subst (λ (m : Media). R m is) (let e : x ≡ was = cc told in e) (subst (R x) (let e : y ≡ is = cc now in e) both)
 
 -- a shelf that tells its media tells it afterwards
 both_told : (old new : Option Media) (R : Media → Media → Type 0) (was : Media) → old ≡ Some was → BothTold old new R → (is : Media) × (new ≡ Some is) × R was is
@@ -141,7 +145,7 @@ module _ (past : List Fact) (s : State) (c : OpenCopy) (tied : IsTied past s) (d
   abbrev pub core2 : Core
   core2 = record base { status = st }
 
-  module _ (review : Reviews base core2) (sound2 : IsSound (state device core2)) (sectors : HasSectors device) (lost : LostShowGroup group core.status st device) where
+  module _ (review : Reviews base core2) (sound2 : IsSound (state device core2)) (sectors : HasSectors device) where
     moved : HasMovedTo c.lv c.lp c.pp group next
     moved = move_has_moved core c (taking.valid past s c tied drained) (taking.copy past s c tied drained) (taking.whole_is past s c tied drained).moves
 
@@ -171,21 +175,18 @@ module _ (past : List Fact) (s : State) (c : OpenCopy) (tied : IsTied past s) (d
     kept : Kept now v.facts
     kept = subst (Kept now) (sym tied.sees.facts) (on_kept past s c tied drained content is.reads (of_group past s c tied drained) (session_held past s c tied drained spares) device is.keeps image (media_may device media told_then.1))
 
-    held_both : SessionIsHeld device next last homes × OthersAreLeft group.id s.device device
+    held_both : SessionIsHeld device next last homes × OthersAreLeft group.id s.device device × MembersAreLeft group.id s.device device
     held_both = is.ends.held group next is.reads (of_group past s c tied drained) moved.alike (session_held past s c tied drained spares)
 
     held : HoldsCommitted image next last.committed (there last) last.stamp homes
     held = of_told (λ (m : Media). HoldsCommitted (image_of device.sizes m) next last.committed (there last) last.stamp homes) device.media media told_then.1 held_both.0
 
     others : LeavesOthers shown now group.id
-    others = by s.device.media device.media tied.setting.told told_then.1 held_both.1
-      where
-        by : (a b : Option Media) → a ≡ Some tied.media → b ≡ Some media → BothTold a b (λ x y. LeavesOthers (contents_of (image_of s.device.sizes x)) (contents_of (image_of device.sizes y)) group.id) → LeavesOthers shown now group.id
-        by None b e f both = absurd (cc e)
-        by (Some x) None e f both = absurd (cc f)
-        by (Some x) (Some y) e f both =
-            subst (λ (m : Media). LeavesOthers (contents_of (image_of s.device.sizes m)) now group.id) (let k : x ≡ tied.media = cc e in k)
-            (subst (λ (m : Media). LeavesOthers (contents_of (image_of s.device.sizes x)) (contents_of (image_of device.sizes m)) group.id) (let k : y ≡ media = cc f in k) both)
+    others = of_both s.device.media device.media (λ x y. LeavesOthers (contents_of (image_of s.device.sizes x)) (contents_of (image_of device.sizes y)) group.id) tied.media media tied.setting.told told_then.1 held_both.1
+
+    members_left : (d : ℕ) → passes (is_of group.id) (shown.descriptor d) ≡ true → passes (is_of group.id) (now.descriptor d) ≡ true
+    members_left = of_both s.device.media device.media (λ x y. (d : ℕ) → passes (is_of group.id) ((contents_of (image_of s.device.sizes x)).descriptor d) ≡ true → passes (is_of group.id) ((contents_of (image_of device.sizes y)).descriptor d) ≡ true)
+        tied.media media tied.setting.told told_then.1 held_both.2
 
     -- ---- the status
 
@@ -234,22 +235,15 @@ module _ (past : List Fact) (s : State) (c : OpenCopy) (tied : IsTied past s) (d
     room_same : (d : ℕ) → has_room now d next ≡ has_room shown d next
     room_same d = ap (λ (n : ℕ). list_any (λ (row : PvRow). row.disk == d && nat_le (sectors_needed next.mib row.pps) n) next.pvs) (size_same d)
 
-    lost_show : (d : ℕ) → is_there core d ≡ true → is_there core2 d ≡ false → IsTrue (members_showing now next d)
-    lost_show d before_ gone = of_told (λ (m : Media). (i : ℕ) → IsTrue (there core.status i) → IsFalse (there st i) → IsTrue (members_showing (contents_of (image_of device.sizes m)) group i)) device.media media told_then.1 lost d
-        (sym (there_before d) ∙ before_) (same_there d ∙ gone)
-      where
-        same_there : (i : ℕ) → there st i ≡ is_there core2 i
-        same_there i = ap (λ (g : Descriptor). members_there g st.wanted i) (ap (λ (u : Updates). u.group) rest ∙ group_is)
-
-    there_show : (d : ℕ) → is_there core2 d ≡ true → IsTrue (members_showing now next d)
-    there_show d there_now =
-        let at = sym (there_then d) ∙ there_now in
-        member_of_parts now all_disks next.id next d refl (shows_group now next last.committed (there last) held.shows d at) (held.shows.room d at)
+    -- a member that wasn't missing shows it still, also where it was lost
+    still_shows : (d : ℕ) → is_there core d ≡ true → IsTrue (members_showing now next d)
+    still_shows d before_ =
+        let parts = parts_of shown all_disks group.id group d (members_show past s c tied drained d before_) in
+        member_of_parts now all_disks next.id next d refl (members_left d parts.1) (room_same d ∙ parts.2)
 
     members_same : (d : ℕ) → members_showing now next d ≡ members_showing shown next d
     members_same d = ⊎_elim
-        (λ (before_ : is_there core d ≡ true).
-        (⊎_elim (λ (still : is_there core2 d ≡ true). there_show d still) (λ (gone : is_there core2 d ≡ false). lost_show d before_ gone) (cases_Bool (is_there core2 d))) ∙ sym (members_show past s c tied drained d before_))
+        (λ (before_ : is_there core d ≡ true). still_shows d before_ ∙ sym (members_show past s c tied drained d before_))
         (λ (away : is_there core d ≡ false).
         let descriptor : now.descriptor d ≡ shown.descriptor d = descriptor_stays content core.status last was image changes d (sym (there_before d) ∙ away) in
         let room = room_same d in

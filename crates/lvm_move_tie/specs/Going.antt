@@ -1,5 +1,5 @@
 -- A good session whose move is done goes on over its commit, whatever that answers.
-use Rattle.std.specs.Prelude.{◌≡◌, ◌≢◌, ℕ, List, Ok, Result}
+use Rattle.std.specs.Prelude.{◌≢◌, ℕ, List, Result}
 use Rattle.lvm_vol.specs.Facts.{Fact}
 use Rattle.lvm_commit.specs.LawsOfFinding.{FindsNoMoreOn}
 use Rattle.lvm_core.specs.declared.fault.CommitFault.{CommitFault}
@@ -12,13 +12,12 @@ use Rattle.lvm_tie.specs.GoingOn.{SessionGoesOn}
 use Rattle.lvm_tie.specs.Spares.{SparesDescriptors}
 use Rattle.lvm_tie.specs.Tied.{IsTied}
 use Rattle.lvm_move_tie.specs.Taking.{next_group}
-use Rattle.lvm_move_tie.specs.Tying.{LostShowGroup}
 
 -- At each moment the history is legal, and each crash image kept with it; and once the descriptor is committed the session is good.
 abbrev pub CommitMoveGoesOn : Type 0
 CommitMoveGoesOn =
     (run : ℕ) (s new : State) (c : OpenCopy) (before after : ℕ) (answer : Result (Unit {0}) CommitFault) → IsSound s → IsSound new → IsDrainedMoving s c → s.core.status.stamp.epoch ≢ 0 → SparesDescriptors s
-    → CommitsOpenMove before after s new answer → (answer ≡ Ok tt → LostShowGroup s.core.descriptor s.core.status new.core.status new.device) → SessionGoesOn run s new
+    → CommitsOpenMove before after s new answer → SessionGoesOn run s new
 
 -- Whatever is answered, each crash image that finds a descriptor finds one that was found before, or the next one.
 abbrev pub CommitMoveFinds : Type 0

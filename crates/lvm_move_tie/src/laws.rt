@@ -27,8 +27,8 @@ pub fn restating_keeps()
     ensures { RestatingKeeps }
 {}
 
-/// A tied session is tied by the next descriptor once the commit of its move has ended well, where members that were lost
-/// meanwhile show the group still.
+/// A tied session is tied by the next descriptor once the commit of its move has ended well, also where members were lost
+/// meanwhile.
 pub fn move_ties()
     ensures { MoveTies }
 {}

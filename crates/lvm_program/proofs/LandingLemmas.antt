@@ -183,7 +183,7 @@ module _ (old new : ScriptState) (between : IsBetween old.moment old.session old
   migratepv_lands volume from to answer (NoGroupForMoves off is) = inl is.1
   migratepv_lands volume from to answer (NotAskedForMoves core why on not is) = inl is.1
   migratepv_lands volume from to answer (NoneMoves core lv on asked none says same) = inl same
-  migratepv_lands volume from to answer (MovesCopies core lv on asked some its) = moved core on (is_unheard answer) its.end its.way.leaves its.sound its.leaves
+  migratepv_lands volume from to answer (MovesCopies core lv on asked some its) = moved core on (is_unheard answer) its.end its.session.way.leaves its.sound its.leaves
 
   line_lands : (log : Log) (room : Room) (read : Result (Option Command) Misfit) (answer : Reply) → LineDoes log room read old new answer → IsRequesting (role_of read) → LandsIn read old new
   line_lands log room (Ok (Some (command.Rd name at count))) answer does asks = range_lands name None _ at count answer does

@@ -19,7 +19,7 @@ use Rattle.lvm_line.specs.passed.Volumes.{IsWith, IsWithFirst, IsWithMore}
 use Rattle.lvm_line.specs.passed.Members.{as_big, with_quorum}
 use Rattle.lvm_line.specs.passed.Splitting.{IsSplit}
 use Rattle.lvm_core.specs.Leaves.{MayBeFound}
-use Rattle.lvm_line.specs.passed.MoveLines.{IsAsked, PlannedMove, after_moves, planned_moves}
+use Rattle.lvm_line.specs.passed.MoveLines.{IsAsked, MayHaveMoved, PlannedMove, after_moves, planned_moves}
 use Rattle.lvm_line.specs.passed.GroupLines.{asked_for, IsAlone, IsBrokenOff, OfRequests, Role, IsAtRest, StandsBy, ScriptState, Reply}
 use Rattle.lvm_line.specs.passed.VolumeLines.{Drains, wanted}
 use Rattle.lvm_line.specs.passed.ReplyVariants as reply
@@ -56,9 +56,9 @@ IsToCommit (Ok (Some (command.Splitlvcopy made name copies))) old new k = (core 
 IsToCommit (Ok (Some (command.Migratepv volume from to))) old new k = IsSomeAnd old.session (λ core. (lv : Option ℕ) × IsAsked core.descriptor volume from to lv × HasMovedSome core.descriptor lv from to k)
 IsToCommit other old new k = ⊥
 
--- it was answered as done, or as broken off; copies may have moved whatever was answered
+-- it was answered as done, or as broken off; copies may have moved before other answers too
 abbrev pub MayHaveTried : Result (Option Command) Misfit → Reply → Type 0
-MayHaveTried (Ok (Some (command.Migratepv volume from to))) answer = Unit {0}
+MayHaveTried (Ok (Some (command.Migratepv volume from to))) answer = MayHaveMoved answer
 MayHaveTried read answer = (answer ≡ reply.Ok) ⊎ IsBrokenOff answer
 
 -- The line was answered so that it may have tried, and was to commit this descriptor of the group.

@@ -54,7 +54,7 @@ module _ (old new : ScriptState) (between : IsBetween old.moment old.session old
   migratepv_ends volume from to answer (NotAskedForMoves core why on not_asked is) = same_ends old new between is.1
   migratepv_ends volume from to answer (MovesNone core lv on asked none says same) = same_ends old new between same
   migratepv_ends volume from to answer (MovesCopies core lv on asked volumes its) =
-      went_fails old new between core on its.end (by_moves old core its.end (moves_on old new between core its.end on its.way.leaves)) its.sound (is_unheard answer) its.leaves
+      went_fails old new between core on its.end (by_moves old core its.end (moves_on old new between core its.end on its.session.way.leaves)) its.sound (is_unheard answer) its.leaves
 
   told : (log : Log) (room : Room) (read : Result (Option Command) Misfit) (answer : Reply) → LineDoes log room read old new answer → ToldCause read answer old new
   told log room (Ok (Some command.Wait)) (reply.Answers text refused) does = wait_told old new between text refused does

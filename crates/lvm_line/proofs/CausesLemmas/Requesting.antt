@@ -23,7 +23,7 @@ use Rattle.lvm_volume_lines.specs.passed.Resync.{Copy, SyncCause, SyncFault, gro
 use Rattle.lvm_volume_lines.specs.passed.SyncFaultVariants as sync
 use Rattle.lvm_volume_lines.specs.passed.RangeLines.{FailsBy, FailsIf, CarriesBy, StopsAs, session_over, Tells, TellsAll, TellsNone, Ending, ask_refusal, range_refusal, EndsWell, Fails, IsFinished, Finishes, NoMemory, NotBegun, NotPosted, NotThere, OnVolume, Posted, Posts, PostDoes, RdDoes, ShowsBlocks, ShowsThem, There, WhileOff, WrDoes, NoStepWhileOff, NothingMoves, StepDoes, Steps, step_reply}
 use Rattle.lvm_volume_lines.specs.passed.RangeLinesWaiting.{AtRest, Awaits, Goes, InVain, Over, WaitDoes, WaitEnds, WhileOff as WaitsWhileOff}
-use Rattle.lvm_volume_lines.specs.passed.GroupLines.{InFull, IsBetween, Shows, WithoutMemory, ScriptState, Refusal, Reply, is_unheard}
+use Rattle.lvm_volume_lines.specs.passed.GroupLines.{InFull, IsBetween, Shows, WithoutMemory, ScriptState, Refusal, Reply, is_unheard, patience_of_line}
 use Rattle.lvm_volume_lines.specs.passed.RefusalVariants as refusal
 use Rattle.lvm_volume_lines.specs.passed.ReplyVariants as reply
 use Rattle.lvm_volume_lines.proofs.passed.Ranges.{off_votes}
@@ -34,7 +34,7 @@ use Rattle.lvm_move_lines.specs.passed.Migrate.{MoveCause, MoveFault}
 use Rattle.lvm_move_lines.specs.passed.MoveFaultVariants as move
 use Rattle.lvm_volume_lines.specs.passed.Tie.{MovesOn}
 use Rattle.lvm_line.specs.Causes.{TurnCause}
-use Rattle.lvm_line.proofs.CausesLemmas.Turns.{WentWithin, by_moves, dark_cause, failed_cause, fails_counts, leaves_counts, moves_on, off_cause, over_counts, stuck_cause, went_dark, went_off, went_stuck}
+use Rattle.lvm_line.proofs.CausesLemmas.Turns.{WentWithin, by_moves, dark_cause, failed_cause, fails_counts, leaves_counts, moves_on, off_cause, over_counts, stuck_cause, went_dark, went_off, went_stuck, went_waiting}
 
 -- what has happened for it; no group is on where nothing was heard of a transfer; and it isn't that votes are lacking for a quorum
 pub record Told (why : Refusal) (old new : ScriptState) : Type 0 where
@@ -181,13 +181,13 @@ module _ (old new : ScriptState) (between : IsBetween old.moment old.session old
   -- ---- migratepv
 
   migrated_told : (lv : Option ℕ) (from to : ℕ) (core : Core) (why : Refusal) → old.session ≡ Some core → IsMigrated lv from to core old new (reply.Refused why) → Told why old new
-  migrated_told lv from to core why some its = by its.result its.caused its.says
+  migrated_told lv from to core why some its = by its.result its.session.caused its.says
     where
       end : State
       end = its.end
 
       moves : MovesOn (session_over old core) end
-      moves = moves_on old new between core end some its.way.leaves
+      moves = moves_on old new between core end some its.session.way.leaves
 
       went : WentWithin old core end
       went = by_moves old core end moves
@@ -202,14 +202,14 @@ module _ (old new : ScriptState) (between : IsBetween old.moment old.session old
       told_off have total off have_is total_is is =
           told_by why _ old new (is ∙ ap (λ n. reply.Refused (refusal.WentOff n total)) have_is ∙ ap (λ n. reply.Refused (refusal.WentOff (votes_there end.core) n)) total_is) (told_easy (refusal.WentOff (votes_there end.core) (total_votes end.core.descriptor)) old new
           (went_off old new core end between went its.sound counts (votes_there end.core) (total_votes end.core.descriptor) some (off_votes end its.sound off)
-          (moved_votes_go (session_over old core) end moves.keeps.alike its.way.loses (its.sound.off off))) (λ e. cc) (λ h t e. cc))
+          (moved_votes_go (session_over old core) end moves.keeps.alike its.session.way.loses (its.sound.off off))) (λ e. cc) (λ h t e. cc))
 
-      by : (r : Result ℕ MoveFault) → IfErr r (MoveCause its.left (session_over old core) end) → reply.Refused why ≡ move_reply r → Told why old new
+      by : (r : Result ℕ MoveFault) → IfErr r (MoveCause patience_of_line (session_over old core) end) → reply.Refused why ≡ move_reply r → Told why old new
       by (Ok moved) caused is = absurd (cc (is))
       by (Err move.Dark) dark is = told_by why refusal.Dark old new is (told_easy refusal.Dark old new (went_dark old new core end between went its.sound counts dark) (λ e. cc) (λ h t e. cc))
       by (Err (move.WentOff have total)) off is = told_off have total off.0 off.1.0 off.1.1 is
-      by (Err move.Stuck) none is = told_by why refusal.Stuck old new is
-          (record { cause = went_stuck old new core end between went its.sound counts its.left none its.beside.waited; off = λ stuck. unheard (ap is_unheard is); counted = λ h t e. cc })
+      by (Err move.Stuck) waited is = told_by why refusal.Stuck old new is
+          (record { cause = went_waiting old new core end between went its.sound counts waited; off = λ stuck. unheard (ap is_unheard is); counted = λ h t e. cc })
       by (Err (move.SyncFailed disk)) failed is = told_by why _ old new is (told_easy (refusal.SyncFailed disk) old new (record {
         core = core;
         on = some;

@@ -63,9 +63,11 @@ module _ (old new : ScriptState) (core : Core) (end : State) (between : IsBetwee
   pub went_dark : end.core.power ≡ power.Dark → Rose old.moment.device.counts.cuts new.moment.device.counts.cuts
   went_dark dark = subst (λ (n : Counts). Rose old.moment.device.counts.cuts n.cuts) (sym counts) (went.cut between.lit.power (sound.dark (ap is_dark dark)).power)
 
+  pub went_waiting : RoseBy patience_of_line old.moment.device.counts.waits end.device.counts.waits → RoseBy patience_of_line old.moment.device.counts.waits new.moment.device.counts.waits
+  went_waiting waited = subst (λ (n : Counts). RoseBy patience_of_line old.moment.device.counts.waits n.waits) (sym counts) waited
+
   pub went_stuck : (left : ℕ) → left ≡ 0 → RoseBy (patience_of_line - left) old.moment.device.counts.waits end.device.counts.waits → RoseBy patience_of_line old.moment.device.counts.waits new.moment.device.counts.waits
-  went_stuck left none waited =
-      subst (λ (n : Counts). RoseBy patience_of_line old.moment.device.counts.waits n.waits) (sym counts) (subst (λ (n : ℕ). RoseBy (patience_of_line - n) old.moment.device.counts.waits end.device.counts.waits) none waited)
+  went_stuck left none waited = went_waiting (subst (λ (n : ℕ). RoseBy (patience_of_line - n) old.moment.device.counts.waits end.device.counts.waits) none waited)
 
   pub went_failed : AnyFailed old.moment.device end.device → AnyFailed old.moment.device new.moment.device
   went_failed failed = (failed.0, subst (λ (n : Counts). Rose (old.moment.device.counts.faults failed.0) (n.faults failed.0)) (sym counts) failed.1)

@@ -245,7 +245,7 @@ module _ (log : Log) (room : Room) (old new : ScriptState) (between : IsBetween 
     own = λ k is. own_moved log.run old new between named may volume from to core some k is;
   }
   moved_leaves volume from to moved may (MovesCopies core lv some asked volumes its) =
-      let on = moved_on its.result its.says its.on in
+      let on = moved_on its.result its.says its.session.on in
       record {
         core = its.end.core;
         on = session_on log.run old new between named may core some volumes lv from to (reply.Migrated moved) its on refl;

@@ -12,13 +12,13 @@ use Rattle.lvm_session.specs.declared.open.Power.{Power}
 use Rattle.lvm_session.specs.declared.open.Power.TheVariants as power
 use Rattle.lvm_session.specs.Sound.{IsSound}
 use Rattle.lvm_session.specs.State.{Core, State, state}
-use Rattle.lvm_line.specs.passed.Tie.{IsGood, MovesOn}
-use Rattle.lvm_line.proofs.passed.MoveLines.{is_planned}
+use Rattle.lvm_line.specs.passed.Tie.{IsCommittedOn, IsGood, MovesOn}
+use Rattle.lvm_line.proofs.passed.MoveLines.{is_planned, tried_or_same}
 use Rattle.lvm_line.proofs.passed.Tie.{going_moves_on, moves_find_theirs}
 use Rattle.lvm_line.specs.passed.TieCommands.{StandsAfter}
 use Rattle.lvm_line.specs.passed.GroupLines.{IsBetween, IsOnBetween, OfRequests, Reply, ScriptState, StandsAlone, is_unheard}
 use Rattle.lvm_line.specs.passed.RangeLines.{CarriesBy, FailsIf}
-use Rattle.lvm_line.specs.passed.MoveLines.{IsAsked, IsMigrated, MigratepvDoes, MovesCopies, NoGroupForMoves, NotAskedForMoves, NothingMoves, PlannedMove, after_move, after_moves, planned_moves, stages}
+use Rattle.lvm_line.specs.passed.MoveLines.{IsAsked, IsMigrated, MayHaveMoved, MigratepvDoes, MovesCopies, NoGroupForMoves, NotAskedForMoves, NothingMoves, PlannedMove, after_move, after_moves, planned_moves, stages}
 use Rattle.lvm_top.specs.Standing.{HasMovedSome, MayHaveCommitted, StandsForMoves}
 use Rattle.lvm_top.proofs.Devices.{NothingNew, same_nothing}
 use Rattle.lvm_top.proofs.LeavesLemmas.Quiet.{closed_nothing}
@@ -93,7 +93,7 @@ module _ (run : ℕ) (old new : ScriptState) (between : IsBetween old.moment old
         end = its.end
 
         moves : MovesOn first_session end
-        moves = (going_moves_on first_session end was_sound its.way.leaves).1
+        moves = (going_moves_on first_session end was_sound its.session.way.leaves).1
 
         carried_nothing : (p : Power) → CarriesBy p end old.posts old.last new → NothingNew end.device new.moment.device
         carried_nothing power.On is = same_nothing end.device new.moment.device (ap (λ (s : ScriptState). s.moment.device) is)
@@ -123,19 +123,33 @@ module _ (run : ℕ) (old new : ScriptState) (between : IsBetween old.moment old
         pub end_id : end.core.descriptor.id ≡ core.descriptor.id
         end_id = ap (λ (d : Descriptor). d.id) moves.keeps.alike
 
-        pub migrated_finds : (volume : Option (List ℕ)) → IsAsked core.descriptor volume from to lv → (id : ℕ) (k : Descriptor) → MayBeFound new.moment.device id k → MayBeFound old.moment.device id k ⊎ MayHaveCommitted (Ok (Some (command.Migratepv volume from to))) answer old new id k
-        migrated_finds volume asked id k it = ⊎_elim
-            (λ before. inl before)
-            (λ committed.
-            let stage = stage_of core.descriptor (planned_moves core.descriptor lv from to) k (is_planned (planned_moves core.descriptor lv from to) first_session end its.way k committed.1) in
-            let some_moved : HasMovedSome core.descriptor lv from to k = record { first = stage.first; moved = stage.moved; rest = stage.rest; all = stage.all; is = stage.is } in
-            inr (record {
-              tried = tt;
-              own = committed.0 ∙ sym (some_id core.descriptor lv from to k some_moved);
-              is = subst (λ (o : Option Core). IsSomeAnd o (λ (c : Core). (n : Option ℕ) × IsAsked c.descriptor volume from to n × HasMovedSome c.descriptor n from to k)) (sym some) (lv, asked, some_moved);
-            }))
-            (moves_find_theirs may.first may.past first_session end its.way.leaves was_sound between.descriptors good_first begun
-            ((stands_first may.past may.begins).spares volumes) id k (end_nothing id k it))
+        module _ (volume : Option (List ℕ)) (asked : IsAsked core.descriptor volume from to lv) (id : ℕ) (k : Descriptor) where
+          abbrev Tried : Type 0
+          Tried = MayHaveCommitted (Ok (Some (command.Migratepv volume from to))) answer old new id k
+
+          -- one that was being committed is of the plan
+          planned_tried : MayHaveMoved answer → (id ≡ core.descriptor.id) × IsCommittedOn its.session.way.leaves k → Tried
+          planned_tried moved committed =
+              let stage = stage_of core.descriptor (planned_moves core.descriptor lv from to) k (is_planned (planned_moves core.descriptor lv from to) first_session end its.session.way k committed.1) in
+              let some_moved : HasMovedSome core.descriptor lv from to k = record { first = stage.first; moved = stage.moved; rest = stage.rest; all = stage.all; is = stage.is } in
+              record {
+                tried = moved;
+                own = committed.0 ∙ sym (some_id core.descriptor lv from to k some_moved);
+                is = subst (λ (o : Option Core). IsSomeAnd o (λ (c : Core). (n : Option ℕ) × IsAsked c.descriptor volume from to n × HasMovedSome c.descriptor n from to k)) (sym some) (lv, asked, some_moved);
+              }
+
+          moved_finds : MayHaveMoved answer → MayBeFound new.moment.device id k → MayBeFound old.moment.device id k ⊎ Tried
+          moved_finds moved it = ⊎_elim
+              (λ before. inl before)
+              (λ committed. inr (planned_tried moved committed))
+              (moves_find_theirs may.first may.past first_session end its.session.way.leaves was_sound between.descriptors good_first begun
+              ((stands_first may.past may.begins).spares volumes) id k (end_nothing id k it))
+
+          pub migrated_finds : MayBeFound new.moment.device id k → MayBeFound old.moment.device id k ⊎ Tried
+          migrated_finds it = ⊎_elim
+              (λ moved. moved_finds moved it)
+              (λ same. inl (subst (λ (s : State). MayBeFound s.device id k) same (end_nothing id k it)))
+              (tried_or_same lv from to core old new answer its)
 
   -- what the line was to commit is a descriptor of the group
   pub own_moved : (volume : Option (List ℕ)) (from to : ℕ) (core : Core) → old.session ≡ Some core → (k : Descriptor) → IsSomeAnd old.session (λ (c : Core). (lv : Option ℕ) × IsAsked c.descriptor volume from to lv × HasMovedSome c.descriptor lv from to k) → k.id ≡ core.descriptor.id

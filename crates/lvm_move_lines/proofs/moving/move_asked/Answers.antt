@@ -1,7 +1,8 @@
 use Rattle.std.proofs.Common.{◌≡◌, ◌≤◌, ℕ, refl, sym, subst, ◌∙◌}
+use Rattle.std.specs.Prelude.{IfErr}
 use Rattle.lvm_session.specs.declared.open.Power.TheVariants as power
 use Rattle.lvm_session.specs.State.{state_of}
-use Rattle.lvm_migrate.specs.Migrating.{GoesBesideMoving, MigrateGives}
+use Rattle.lvm_migrate.specs.Migrating.{GoesBesideMoving, MigrateGives, MoveCause}
 use Rattle.lvm_range_lines.specs.passed.GroupLines.{Reply, is_unheard, most_refusals}
 use Rattle.lvm_range_lines.proofs.LeavingLemmas.Posting.{table_posts}
 use Rattle.lvm_move_lines.specs.Moving.{MigratepvDoes, MovesCopies}
@@ -24,6 +25,7 @@ returns g c = λ bytes posts fits between stage its.
     let left = c.migrate-moved.new.patience.left in
     let result = c.migrate-moved.result in
     let gives = subst (λ (k : ℕ). MigrateGives c.args.lv c.args.from c.args.to k left (state_of device first) (state_of device end) result) c.whole.ensures c.migrate-moved.ensures.gives in
+    let caused = subst (λ (k : ℕ). IfErr result (MoveCause k (state_of device first) (state_of device end))) c.whole.ensures c.migrate-moved.ensures.caused in
     let shut = c.migrate-moved.ensures.closed c.requires.shut in
     let answer = c.move_reply.result in
     let says = c.move_reply.ensures.reply in
@@ -34,13 +36,16 @@ returns g c = λ bytes posts fits between stage its.
       end = state_of device end;
       left = left;
       result = result;
-      gives = gives;
-      stand = c.migrate-moved.ensures.stand;
-      beside = beside;
-      way = c.migrate-moved.ensures.way;
-      empty = c.migrate-moved.ensures.empty;
-      caused = c.migrate-moved.ensures.caused;
-      on = on_of end.1 result shut;
+      session = record {
+        gives = gives;
+        stand = c.migrate-moved.ensures.stand;
+        beside = beside;
+        way = c.migrate-moved.ensures.way;
+        empty = c.migrate-moved.ensures.empty;
+        fresh = c.migrate-moved.ensures.fresh;
+        caused = caused;
+        on = on_of end.1 result shut;
+      };
       sound = c.move_reply.ensures.sound;
       leaves = fails_if device end posts bytes stage last (is_unheard answer) (table_posts first.1 end.1 beside.table posts.items between.posted) its.comes;
       says = says;
