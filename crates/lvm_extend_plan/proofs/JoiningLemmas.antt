@@ -1,6 +1,7 @@
 -- A group with a member more is valid, and a neighbour of the group without it.
-use Rattle.std.proofs.Common.{◌≡◌, ◌≢◌, ◌⊎◌, inr, ℕ, zero, suc, ◌<◌, ◌≤◌, ◌+◌, Bool, true, false, List, [], ◌∷◌, ◌++◌, length, get_or, map, Option, Some, None, refl, sym, ◌∙◌, ap, arith}
-use Rattle.std.specs.Prelude.{◌==◌, find, All, AllPairs, option_or}
+use Rattle.std.proofs.Common.{◌≡◌, ◌≢◌, inr, ℕ, zero, suc, ◌<◌, ◌+◌, Bool, true, false, List, [], ◌∷◌, ◌++◌, length, get_or, Some, None, refl, sym, ◌∙◌, ap, arith}
+use Rattle.std.specs.Prelude.{◌==◌, find}
+use Rattle.std.specs.Option.{option_or}
 use Rattle.std.specs.List.{list_any}
 use Rattle.std.proofs.lemmas.Bool.{eq-eqb, false≢true}
 use Rattle.std.proofs.lemmas.List.{append-nil, length_push, length-map, map-append}
@@ -10,16 +11,15 @@ use Rattle.std.proofs.lemmas.List.Quantifiers.{all_pairs_push}
 use Rattle.lvm_num.specs.declared.place.Pp.{Pp}
 use Rattle.lvm_num.specs.declared.descriptor.PvRow.{PvRow}
 use Rattle.lvm_num.specs.declared.descriptor.Descriptor.{Descriptor}
-use Rattle.lvm_num.specs.Descriptor.{IsValid, IsMember, IsPartitionOf, is_member, partitions_used}
+use Rattle.lvm_num.specs.Descriptor.{IsValid, IsMember, IsPartitionOf, partitions_used}
 use Rattle.lvm_num.proofs.Booleans.{clash, first_fails, second_fails}
-use Rattle.lvm_change_votes.specs.Meeting.{AreNeighbours, HasMembers, IsOneMore, disks_of}
+use Rattle.lvm_change_votes.specs.Meeting.{HasMembers, IsOneMore, disks_of}
 use Rattle.lvm_change_votes.proofs.MeetingLemmas.{one_more_meets}
 use Rattle.lvm_change_laws.proofs.StayingLemmas.{all_stay}
 use Rattle.lvm_member_plan.specs.Descriptors.{with_even}
 use Rattle.lvm_member_plan.specs.Steps.{IsStep}
 use Rattle.lvm_member_plan.proofs.ValidityLemmas.{even_valid}
 use Rattle.lvm_member_plan.proofs.NeighbourLemmas.{even_near}
-use Rattle.lvm_extend_plan.specs.declared.steps.StepsIn.{StepsIn}
 use Rattle.lvm_extend_plan.specs.Descriptors.{with_member}
 use Rattle.lvm_extend_plan.specs.Steps.{IsStepIn, MayJoin, AreStepsIn}
 

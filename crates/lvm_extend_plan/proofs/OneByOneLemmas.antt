@@ -1,22 +1,19 @@
 -- Of disks that may join the first may, and the others may join behind it.
-use Rattle.std.proofs.Common.{◌≡◌, ◌≢◌, ℕ, zero, suc, ◌<◌, ◌≤◌, ◌+◌, Bool, true, false, ◌||◌, List, [], ◌∷◌, ◌++◌, length, get_or, map, Option, Some, None, refl, sym, ◌∙◌, ap, subst, arith}
-use Rattle.std.specs.Prelude.{◌==◌, nat_le, find, if◌then◌else◌, AllPairs}
-use Rattle.std.specs.List.{list_any}
+use Rattle.std.proofs.Common.{◌≡◌, ◌≢◌, ℕ, suc, ◌<◌, Bool, true, false, ◌||◌, List, [], ◌∷◌, length, get_or, map, Some, None, ◌∙◌, ap, arith}
+use Rattle.std.specs.Prelude.{◌==◌, nat_le, find, if◌then◌else◌}
 use Rattle.std.proofs.lemmas.Bool.{ne_eqb}
 use Rattle.std.proofs.lemmas.List.{append_assoc, length_push}
 use Rattle.std.proofs.lemmas.List.Folds.{list_any-append}
 use Rattle.lvm_num.specs.declared.descriptor.PvRow.{PvRow}
-use Rattle.lvm_num.specs.declared.descriptor.Descriptor.{Descriptor}
 use Rattle.lvm_num.specs.Descriptor.{is_member}
 use Rattle.lvm_num.specs.Geometry.{partition_count}
 use Rattle.lvm_num.proofs.Booleans.{or_false}
 use Rattle.lvm_num.proofs.Lists.{pairs_head}
-use Rattle.lvm_group.specs.NewGroup.{member_for, sectors_on, first_absent, first_too_small}
+use Rattle.lvm_group.specs.NewGroup.{member_for, sectors_on}
 use Rattle.lvm_group.proofs.NewGroupLemmas.Groups.{is_there, has_partition}
 use Rattle.lvm_group.proofs.NewGroupLemmas.Searches.{none_found, found_none}
-use Rattle.lvm_extend_plan.specs.Descriptors.{with_member, extended, first_member}
-use Rattle.lvm_extend_plan.specs.Refusals.{AreJoining}
-use Rattle.lvm_extend_plan.specs.Steps.{MayJoin, MayJoinFirst, JoinOneByOne}
+use Rattle.lvm_extend_plan.specs.Descriptors.{with_member}
+use Rattle.lvm_extend_plan.specs.Steps.{JoinOneByOne}
 
 -- where none is found none is found behind the first
 none_behind : (p : ℕ → Bool) (x : ℕ) (xs : List ℕ) → find p (x ∷ xs) ≡ None → find p xs ≡ None
