@@ -1,5 +1,5 @@
 -- The theorem of a session of which copies move: what its way leaves from one moment of it to a later one.
-use Rattle.std.specs.Prelude.{◌≡◌, ◌⊎◌, ℕ, [], List}
+use Rattle.std.specs.Prelude.{◌≡◌, ◌≢◌, ◌⊎◌, ℕ, [], List, Result}
 use Rattle.lvm_num.specs.declared.descriptor.Descriptor.{Descriptor}
 use Rattle.lvm_disk.specs.Counts.{NoneFalls}
 use Rattle.lvm_disk.specs.Device.{Device, Image, MayLeave}
@@ -9,28 +9,27 @@ use Rattle.lvm_kept.specs.Contents.{contents_of}
 use Rattle.lvm_kept.specs.Group.{IsAlike, IsFound}
 use Rattle.lvm_kept.specs.Moments.{Moment}
 use Rattle.lvm_status.specs.Table.{has_row}
+use Rattle.lvm_steps.specs.Behind.{StampsAreEarlier}
 use Rattle.lvm_steps.specs.Moments.{RunBegins}
+use Rattle.lvm_core.specs.declared.fault.CommitFault.{CommitFault}
+use Rattle.lvm_session.specs.declared.bringing.OpenCopy.{OpenCopy}
 use Rattle.lvm_session.specs.declared.open.Power.TheVariants as power
 use Rattle.lvm_session.specs.Sound.{IsSound}
 use Rattle.lvm_session.specs.State.{State}
 use Rattle.lvm_disk.specs.Paths.{Here, Then}
-use Rattle.lvm_going.specs.Going.{CommitsItsMove, MovingStep}
+use Rattle.lvm_move_keeps.specs.Drained.{IsDrainedMoving}
+use Rattle.lvm_going.specs.Going.{CommitsItsMove, CommitsOpenMove, MovingStep}
 pub use Rattle.lvm_going.specs.Going.{LeavesMoving, LeavesSession}
-use Rattle.lvm_tie.specs.GoingOn.{SessionGoesOn}
 use Rattle.lvm_tie.specs.Landings.{HasCausesSince}
 use Rattle.lvm_tie.specs.Running.{GoesOffByCut, GoesOnOrEnds, IsBefore, KeepsOrigin}
 use Rattle.lvm_tie.specs.Spares.{LeavesDescriptors, SparesDescriptors}
 use Rattle.lvm_tie.specs.Stamps.{KeepsEpoch}
 use Rattle.lvm_tie.specs.Tied.{IsGood, IsTied}
+pub use Rattle.lvm_move_tie.specs.Going.{IsGoodSparing, SparingGoesOn}
 
 -- ---- commits
 
--- a move was committed in the step
-abbrev pub IsCommit : {old new : State} → MovingStep old new → Type 0
-IsCommit (CommitsItsMove before after answer c drained epoch commits) = Unit {0}
-IsCommit other = ⊥
-
--- this descriptor was being committed in it, whatever was answered,
+-- this descriptor was being committed in the step, whatever was answered,
 abbrev pub IsNextOf : {old new : State} → MovingStep old new → Descriptor → Type 0
 IsNextOf (CommitsItsMove before after answer c drained epoch commits) k = k ≡ commits.next
 IsNextOf other k = ⊥
@@ -55,18 +54,18 @@ pub record KeepsMovedShape (old new : State) : Type 0 where
   pub rows : (disk : ℕ) → has_row new.core.origin.table disk ≡ has_row old.core.origin.table disk
   pub power : GoesOnOrEnds old.core new.core ⊎ ((old.core.power ≡ power.On) × (new.core.power ≡ power.Stuck))
 
--- no transfer goes to a slot of descriptors, and the newest ones go on to be spared
-pub record SparesOn (old new : State) : Type 0 where
-  pub leaves : LeavesDescriptors new.device
-  pub spares : SparesDescriptors old → SparesDescriptors new
+-- What stands on its media is of sessions from before this moment; and while it is on, so are its crash images, and it is one of them itself.
+pub record IsLeftBefore (moment : ℕ) (s : State) : Type 0 where
+  pub stands : StampsAreEarlier moment s.device
+  pub on : s.core.power ≡ power.On → IsBefore moment s
 
 -- What each turn and each call leaves, each copy that begins to move and each commit of a move: a good session is good, and its span goes on; what is later than its
--- disks and its history stays so; and each landing has its cause.
+-- disks and its history stays so; and each landing has its cause. Where a transfer isn't heard of, that may be one to a slot of descriptors.
 pub record MovesOn (old new : State) : Type 0 where
-  pub good : SessionGoesOn old.core.history.run old new
-  pub descriptors : LeavesDescriptors old.device → SparesOn old new
-  pub before : (moment : ℕ) → IsBefore moment old → IsBefore moment new
-  pub epoch : (new.core.power ≡ power.Dark → ⊥) → KeepsEpoch old.core.status new.core.status
+  pub good : SparingGoesOn old.core.history.run old new
+  pub descriptors : LeavesDescriptors old.device → (new.core.power ≡ power.Stuck → ⊥) → LeavesDescriptors new.device
+  pub before : (moment : ℕ) → IsLeftBefore moment old → IsLeftBefore moment new
+  pub epoch : new.core.power ≡ power.On → KeepsEpoch old.core.status new.core.status
   pub later : (moment : ℕ) → IsLater old.core.history.facts moment → IsLater new.core.history.facts moment
   pub causes : (first : List Fact) → HasCausesSince first old → HasCausesSince first new
   pub keeps : KeepsMovedShape old new
@@ -77,7 +76,8 @@ LeavesMoveOn = (first last : State) → IsSound first → LeavesSession first la
 
 -- and over a move that is committed, however that ends.
 abbrev pub CommitMovesOn : Type 0
-CommitMovesOn = (old new : State) (step : MovingStep old new) → IsCommit step → IsSound old → IsSound new → MovesOn old new
+CommitMovesOn = (old new : State) (before after : ℕ) (answer : Result (Unit {0}) CommitFault) (c : OpenCopy) → IsDrainedMoving old c → old.core.status.stamp.epoch ≢ 0 → CommitsOpenMove before after old new answer
+    → IsSound old → IsSound new → MovesOn old new
 
 -- So it is where copies move, and the session is sound behind it.
 abbrev pub GoingMovesOn : Type 0
@@ -91,8 +91,8 @@ FoundOn device id k = (image : Image) × MayLeave device image × IsFound (conte
 
 -- A commit of a tied session leaves found what was found before, or the descriptor that was to be committed.
 abbrev pub CommitFindsNext : Type 0
-CommitFindsNext = (past : List Fact) (old new : State) (step : MovingStep old new) → IsCommit step → IsTied past old → SparesDescriptors old
-    → (id : ℕ) (k : Descriptor) → FoundOn new.device id k → FoundOn old.device id k ⊎ ((id ≡ old.core.descriptor.id) × IsNextOf step k)
+CommitFindsNext = (past : List Fact) (old new : State) (before after : ℕ) (answer : Result (Unit {0}) CommitFault) (c : OpenCopy) → IsDrainedMoving old c → old.core.status.stamp.epoch ≢ 0 → (commits : CommitsOpenMove before after old new answer)
+    → IsTied past old → SparesDescriptors old → (id : ℕ) (k : Descriptor) → FoundOn new.device id k → FoundOn old.device id k ⊎ ((id ≡ old.core.descriptor.id) × (k ≡ commits.next))
 
 -- So the way of a good session leaves found what was found before, or one that was being committed on it.
 abbrev pub MovesFindTheirs : Type 0

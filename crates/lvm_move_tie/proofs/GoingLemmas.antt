@@ -38,9 +38,9 @@ use Rattle.lvm_move_keeps.proofs.StandsLemmas.{move_has_moved}
 use Rattle.lvm_going.specs.Going.{closed_after}
 use Rattle.lvm_going.specs.Moves.{next_in, next_of}
 use Rattle.lvm_tie.specs.Spares.{SparesDescriptors}
-use Rattle.lvm_tie.specs.Tied.{IsGood, IsTied}
+use Rattle.lvm_tie.specs.Tied.{IsTied}
 use Rattle.lvm_tie.proofs.OverLemmas.Landings.{land_all}
-use Rattle.lvm_move_tie.specs.Going.{CommitMoveFinds, CommitMoveGoesOn}
+use Rattle.lvm_move_tie.specs.Going.{CommitMoveFinds, CommitMoveGoesOn, IsGoodSparing}
 use Rattle.lvm_move_tie.specs.Taking.{next_group}
 use Rattle.lvm_move_tie.specs.Tying.{MoveTies}
 use Rattle.lvm_move_tie.proofs.HeldLemmas.{of_group, session_held}
@@ -115,8 +115,8 @@ commit_move_finds past s new c before after answer tied drained epoch spares com
 
 -- ---- the span
 
-module _ (run : ℕ) (s : State) (c : OpenCopy) (before after : ℕ) (answer : Result (Unit {0}) CommitFault) (written_ : State) (sound : IsSound s) (drained : IsDrainedMoving s c) (epoch : s.core.status.stamp.epoch ≢ 0) (spares : SparesDescriptors s)
-    (w : WritesMove (next_group s c) (descriptor_bytes (next_group s c)) before after s written_ answer) (first : Moment) (good : IsGood run first s) where
+module _ (run : ℕ) (s : State) (c : OpenCopy) (before after : ℕ) (answer : Result (Unit {0}) CommitFault) (written_ : State) (sound : IsSound s) (drained : IsDrainedMoving s c) (epoch : s.core.status.stamp.epoch ≢ 0)
+    (w : WritesMove (next_group s c) (descriptor_bytes (next_group s c)) before after s written_ answer) (first : Moment) (good : IsGoodSparing run first s) where
   abbrev content : List ℕ
   content = descriptor_bytes (next_group s c)
 
@@ -127,7 +127,10 @@ module _ (run : ℕ) (s : State) (c : OpenCopy) (before after : ℕ) (answer : R
   device = written_.device
 
   tied : (past : List Fact) → RunBegins run past first → IsTied past s
-  tied past begins = good drained.on past begins
+  tied past begins = (good drained.on past begins).0
+
+  spares : (past : List Fact) → RunBegins run past first → SparesDescriptors s
+  spares past begins = (good drained.on past begins).1
 
   keeps_last : KeepsAt content s device
   keeps_last = last-path w.kept
@@ -135,12 +138,12 @@ module _ (run : ℕ) (s : State) (c : OpenCopy) (before after : ℕ) (answer : R
   -- over the steps of the shelf
   pub over_steps : Keeps run first (moment_of s) → Keeps run first (at device facts)
   over_steps span = keeps_path (KeepsAt content s) run first s.device device facts span
-      (λ past begins holds d keeps. let t = tied past begins in on_kept past s c t drained content (reads s c sound drained epoch) (of_group past s c t drained) (session_held past s c t drained spares) d keeps) w.kept
+      (λ past begins holds d keeps. let t = tied past begins in on_kept past s c t drained content (reads s c sound drained epoch) (of_group past s c t drained) (session_held past s c t drained (spares past begins)) d keeps) w.kept
 
   -- and over the landings of the requests where it ends
   pub over_off : Keeps run first (moment_of s) → Keeps run first (at device (facts ++ all_landings outcome.Off facts s.core.requests))
   over_off span = land_all run first device facts facts outcome.Off s.core.requests
-      (λ xs ys split past begins. let t = tied past begins in off_holds past s c t drained content (reads s c sound drained epoch) (of_group past s c t drained) (session_held past s c t drained spares) device keeps_last xs ys split)
+      (λ xs ys split past begins. let t = tied past begins in off_holds past s c t drained content (reads s c sound drained epoch) (of_group past s c t drained) (session_held past s c t drained (spares past begins)) device keeps_last xs ys split)
       (over_steps span)
 
   pub over_dark : Keeps run first (moment_of s) → Keeps run first (at device ((cut_log s.core.history).facts ++ all_landings outcome.Dark (cut_log s.core.history).facts s.core.requests))
@@ -148,14 +151,14 @@ module _ (run : ℕ) (s : State) (c : OpenCopy) (before after : ℕ) (answer : R
     where
       by : (b : Bool) → is_uncut facts ≡ b → Keeps run first (at device ((cut_if b s.core.history).facts ++ all_landings outcome.Dark (cut_if b s.core.history).facts s.core.requests))
       by true is = land_all run first device (facts ++ Cut ∷ []) (facts ++ Cut ∷ []) outcome.Dark s.core.requests
-          (λ xs ys split past begins. let t = tied past begins in dark_holds past s c t drained content (reads s c sound drained epoch) (of_group past s c t drained) (session_held past s c t drained spares) device keeps_last xs ys split)
+          (λ xs ys split past begins. let t = tied past begins in dark_holds past s c t drained content (reads s c sound drained epoch) (of_group past s c t drained) (session_held past s c t drained (spares past begins)) device keeps_last xs ys split)
           (quiet_goes_on run first device facts Cut (over_steps span) tt (λ past begins holds. tt))
       by false is = land_all run first device facts facts outcome.Dark s.core.requests
-          (λ xs ys split past begins. let t = tied past begins in reads_hold_there past s c t drained content (reads s c sound drained epoch) (of_group past s c t drained) (session_held past s c t drained spares) device keeps_last is xs ys split)
+          (λ xs ys split past begins. let t = tied past begins in reads_hold_there past s c t drained content (reads s c sound drained epoch) (of_group past s c t drained) (session_held past s c t drained (spares past begins)) device keeps_last is xs ys split)
           (over_steps span)
 
   -- a session that isn't on is good
-  not_on : (x : State) (p : Power) → x.core.power ≡ p → (p ≡ power.On → ⊥) → IsGood run first x
+  not_on : (x : State) (p : Power) → x.core.power ≡ p → (p ≡ power.On → ⊥) → IsGoodSparing run first x
   not_on x p is off on past begins = absurd (off (sym is ∙ on))
 
   module _ (new : State) (is : new ≡ state device (closed_after answer written_.core)) (sound_new : IsSound new) (sectors : HasSectors new.device)
@@ -164,16 +167,16 @@ module _ (run : ℕ) (s : State) (c : OpenCopy) (before after : ℕ) (answer : R
     new_is : (a : Result (Unit {0}) CommitFault) → answer ≡ a → new ≡ state device (closed_after a written_.core)
     new_is a same = is ∙ ap (λ (x : Result (Unit {0}) CommitFault). state device (closed_after x written_.core)) same
 
-    pub goes_on : IsGood run first new × (Keeps run first (moment_of s) → Keeps run first (moment_of new))
+    pub goes_on : IsGoodSparing run first new × (Keeps run first (moment_of s) → Keeps run first (moment_of new))
     goes_on = by w.how w.goes
       where
-        by : (how : CommitEnd) → MoveEnds (next_group s c) w.last w.homes s.core written_.core how answer → IsGood run first new × (Keeps run first (moment_of s) → Keeps run first (moment_of new))
+        by : (how : CommitEnd) → MoveEnds (next_group s c) w.last w.homes s.core written_.core how answer → IsGoodSparing run first new × (Keeps run first (moment_of s) → Keeps run first (moment_of new))
         by (commit_end.Done back) goes =
             let core_is = goes.1.is in
             let none : closed written_.core ≡ written_.core = (λ t. closed (core_is t)) ∙ sym core_is in
             let same : new ≡ written_ = new_is (Ok tt) goes.0 ∙ ap (λ (x : Core). state device x) none in
             let ok : CommitsMove (next_group s c) content before after s new (Ok tt) = subst (λ (x : State). CommitsMove (next_group s c) content before after s x (Ok tt)) (sym same) (subst (λ (a : Result (Unit {0}) CommitFault). CommitsMove (next_group s c) content before after s written_ a) goes.0 commits) in (
-              λ on past begins. (move_ties past s new c content before after (tied past begins) drained spares (reads s c sound drained epoch) ok sound_new sectors).0,
+              λ on past begins. move_ties past s new c content before after (tied past begins) drained (spares past begins) (reads s c sound drained epoch) ok sound_new sectors,
               λ span. subst (λ (x : State). Keeps run first (moment_of x)) (sym same) (subst (λ (l : List Fact). Keeps run first (at device l)) (sym (ap (λ (x : Core). x.history.facts) core_is)) (over_steps span)),
             )
         by (commit_end.WentOff have total back) goes =
@@ -193,8 +196,8 @@ module _ (run : ℕ) (s : State) (c : OpenCopy) (before after : ℕ) (answer : R
             )
 
 pub commit_move_goes_on : CommitMoveGoesOn
-commit_move_goes_on run s new c before after answer sound sound_new drained epoch spares commits first good =
+commit_move_goes_on run s new c before after answer sound sound_new drained epoch commits first good =
     let d_is = ready_is s c sound drained epoch commits.next commits.ready in
     let it = subst (λ (d : Descriptor). CommitsMove d (descriptor_bytes d) before after s commits.written answer) d_is commits.commits in
     let w = written s c sound drained epoch (descriptor_bytes (next_group s c)) before after commits.written answer it in
-    goes_on run s c before after answer commits.written sound drained epoch spares w first good new commits.is sound_new commits.sectors it
+    goes_on run s c before after answer commits.written sound drained epoch w first good new commits.is sound_new commits.sectors it

@@ -3,6 +3,7 @@ mod copies;
 mod faults;
 mod fixtures;
 mod moves;
+mod places;
 mod requests;
 mod steps;
 mod sync;

@@ -16,7 +16,7 @@ use Rattle.lvm_steps.specs.Requests.{at}
 use Rattle.lvm_steps.proofs.MomentsLemmas.Spans.{keeps_steps}
 use Rattle.lvm_steps.specs.Behind.{beginning_at}
 use Rattle.lvm_steps.specs.Laws.{LeavesBefore}
-use Rattle.lvm_steps.proofs.LawsLemmas.Shelves.{left_is_before}
+use Rattle.lvm_steps.proofs.LawsLemmas.Shelves.{left_is_before, still_keeps_before}
 use Rattle.lvm_session.specs.declared.open.Open.{Open}
 use Rattle.lvm_session.specs.declared.open.Power.{Power}
 use Rattle.lvm_session.specs.declared.open.Power.TheVariants as power
@@ -27,8 +27,8 @@ use Rattle.lvm_session.specs.Sound.{HasPower, IsSound, is_dark, waits}
 use Rattle.lvm_session.specs.State.{Core, State, state}
 use Rattle.lvm_status.specs.Members.{HasItsRows}
 use Rattle.lvm_quiesce.specs.passed.Core.{HaveAllLanded}
-use Rattle.lvm_tie_commands.specs.passed.Tie.{IsGood, moment_of, IsBefore}
-use Rattle.lvm_group_lines.specs.passed.Tie.{MovesOn}
+use Rattle.lvm_tie_commands.specs.passed.Tie.{moment_of, IsBefore}
+use Rattle.lvm_group_lines.specs.passed.Tie.{IsGoodSparing, IsLeftBefore, MovesOn}
 use Rattle.lvm_quiesce.specs.Behind.{IsAheadEach}
 use Rattle.lvm_tie_commands.specs.Standing.{StandsAfter}
 use Rattle.lvm_group_lines.proofs.passed.Tie.{is_stamped, moved_stamped}
@@ -122,10 +122,10 @@ module _ (role : Role) (old : ScriptState) (core : Core) (end : State) (its : Is
         subst (λ (o : Option Core). IfSome o (λ (c : Core). StandsAlone old.moment.device c → StandsAfter past old.moment.device c)) its.session (stands past begins)
         (subst (λ (o : Option Core). IfSome o (StandsAlone old.moment.device)) its.session (its.alone new alone))
 
-    good_first : IsGood core.history.run first first_session
-    good_first on past begins = (stands_first past begins).tied its.volumes
+    good_first : IsGoodSparing core.history.run first first_session
+    good_first on past begins = let stood = stands_first past begins in (stood.tied its.volumes, stood.spares its.volumes)
 
-    pub good_end : IsGood core.history.run first end
+    pub good_end : IsGoodSparing core.history.run first end
     good_end = (stays_good.good first good_first).0
 
     pub spanned : Keeps core.history.run first old.moment → Keeps core.history.run first (moment_of end)
@@ -134,8 +134,8 @@ module _ (role : Role) (old : ScriptState) (core : Core) (end : State) (its : Is
     pub stands_then : end.core.power ≡ power.On → (past : List Fact) → RunBegins core.history.run past first → StandsAfter past end.device end.core
     stands_then on past begins = record {
       empty = λ none. absurd (has_volumes none);
-      tied = λ some. good_end on past begins;
-      spares = λ some. (stays_good.descriptors its.between.descriptors).spares ((stands_first past begins).spares its.volumes);
+      tied = λ some. (good_end on past begins).0;
+      spares = λ some. (good_end on past begins).1;
     }
 
   -- ---- its moment
@@ -147,8 +147,21 @@ module _ (role : Role) (old : ScriptState) (core : Core) (end : State) (its : Is
       session = λ lit. (is_stamped core.status on_first.stamped, let e = subst (λ (o : Option Core). IfSome o (λ (c : Core). c.status.stamp.epoch ≤ old.last)) its.session timely.session in omega (arith, e));
     }
 
-    pub before_end : IsBefore (old.last + 1) end
-    before_end = stays_good.before (old.last + 1) before_first
+    pub before_end : IsLeftBefore (old.last + 1) end
+    before_end = stays_good.before (old.last + 1) (record { stands = left_is_before (beginning_at (old.last + 1)) old.moment.device timely.ahead.behind; on = λ on. before_first })
+
+    -- where it is heard of, each crash image is
+    left_end : (end.core.power ≡ power.Stuck → ⊥) → LeavesBefore (beginning_at (old.last + 1)) end.device
+    left_end heard = by end.core.power refl
+      where
+        over : is_over end.core.power ≡ true → LeavesBefore (beginning_at (old.last + 1)) end.device
+        over is = still_keeps_before (beginning_at (old.last + 1)) end.device (its.sound.over is).flights before_end.stands
+
+        by : (p : Power) → end.core.power ≡ p → LeavesBefore (beginning_at (old.last + 1)) end.device
+        by power.On is = (before_end.on is).leaves
+        by power.Off is = over (ap is_over is)
+        by power.Dark is = over (ap is_over is)
+        by power.Stuck is = absurd (heard is)
 
     pub later_end : IsLater end.core.history.facts (old.last + 1)
     later_end = stays_good.later (old.last + 1) (subst (λ (fs : List Fact). IsLater fs (old.last + 1)) its.facts timely.ahead.later)
@@ -171,19 +184,19 @@ module _ (role : Role) (old : ScriptState) (core : Core) (end : State) (its : Is
     goes : LineGoesOn core.history.run role answer old next
     goes = record {
       keeps = λ timely alone first span stands. (spanned next alone first stands span, λ heard past begins only. stands_then next alone first stands on past begins);
-      timely = λ heard timely. let before = before_end timely in record {
+      timely = λ heard timely. let before = (before_end timely).on on in record {
         ahead = record { run_is = timely.ahead.run_is; later = later_end timely; behind = before.leaves };
         session = let e = (before.session not_dark).1 in omega (arith, e);
       };
-      left = λ timely. record { run_is = timely.ahead.run_is; later = later_end timely; behind = left_is_before (beginning_at (old.last + 1)) end.device (before_end timely).leaves };
+      left = λ timely. record { run_is = timely.ahead.run_is; later = later_end timely; behind = (before_end timely).stands };
       between = λ heard. record {
         lit = lit;
-        descriptors = (stays_good.descriptors its.between.descriptors).leaves;
+        descriptors = stays_good.descriptors its.between.descriptors (λ stuck. let e : power.On ≡ power.Stuck = sym on ∙ stuck in cc e);
         landed = tt;
         session = record {
           power = on;
           sound = its.sound;
-          stamped = moved_stamped first_session end stays_good not_dark on_first.stamped;
+          stamped = moved_stamped first_session end stays_good on on_first.stamped;
           rows = has_rows on_first.rows;
           copy = copy;
           empty = λ none. absurd (has_volumes none);
@@ -212,7 +225,7 @@ module _ (role : Role) (old : ScriptState) (core : Core) (end : State) (its : Is
     closed_ahead timely = subst (λ (n : ℕ). IsAheadEach core.history.run (n + 1) new.moment.device new.moment.facts) (sym clock) (record {
       run_is = timely.ahead.run_is;
       later = subst (λ (fs : List Fact). IsLater fs (old.last + 1)) (sym facts) (later_end timely);
-      behind = behind_closed (old.last + 1) (before_end timely).leaves;
+      behind = behind_closed (old.last + 1) (left_end timely heard_of);
     })
 
   module _ (answer : Reply) (new : ScriptState) (closed : IsClosed end.core.power end.device new.moment.device) (facts : new.moment.facts ≡ end.core.history.facts) (none : new.session ≡ None)
@@ -237,7 +250,7 @@ module _ (role : Role) (old : ScriptState) (core : Core) (end : State) (its : Is
       left = λ timely. let ahead = closed_ahead new closed facts clock heard_of timely in record { run_is = ahead.run_is; later = ahead.later; behind = left_is_before (beginning_at (new.last + 1)) new.moment.device ahead.behind };
       between = λ heard. record {
         lit = it.lit;
-        descriptors = λ d at value flies. (stays_good.descriptors its.between.descriptors).leaves d at value (subst (λ (fs : List Flight). IsInFlight fs d at value) it.flights flies);
+        descriptors = λ d at value flies. stays_good.descriptors its.between.descriptors heard_of d at value (subst (λ (fs : List Flight). IsInFlight fs d at value) it.flights flies);
         landed = subst (λ (o : Option Core). IfNone o (HaveAllLanded new.moment.facts)) (sym none) (subst HaveAllLanded (sym facts) (over_landed end its.sound (over heard)));
         session = subst (λ (o : Option Core). IfSome o (IsOnBetween new.moment.device)) (sym none) tt;
         posted = subst (λ (o : Option Core). ArePosted new.moment.facts o new.posts) (sym none) posted;

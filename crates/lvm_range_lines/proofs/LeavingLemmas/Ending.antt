@@ -8,8 +8,7 @@ use Rattle.lvm_disk.specs.Device.{Device}
 use Rattle.lvm_kept.specs.Moments.{Moment}
 use Rattle.lvm_steps.specs.Moments.{Keeps}
 use Rattle.lvm_steps.specs.Requests.{at}
-use Rattle.lvm_steps.specs.Behind.{IsAhead, beginning_at}
-use Rattle.lvm_steps.proofs.LawsLemmas.Shelves.{left_is_before}
+use Rattle.lvm_steps.specs.Behind.{IsAhead}
 use Rattle.lvm_vol.specs.Facts.{Fact}
 use Rattle.lvm_vol.specs.Log.{Log}
 use Rattle.lvm_session.specs.declared.open.Power.{Power}
@@ -192,7 +191,7 @@ module _ {S : Type 0} (device : S → Device) (first : S × Core) (posts : Vec P
           left_behind last timely = subst (λ (m : Moment). IsAhead first.1.history.run (last + 1) m.device m.facts) (sym same_moment) (record {
             run_is = timely.ahead.run_is;
             later = later_end OfRequests (state_in device old last) first.1 (state_of device end) (its last) timely;
-            behind = left_is_before (beginning_at (last + 1)) (device end.0) (before_end OfRequests (state_in device old last) first.1 (state_of device end) (its last) timely).leaves;
+            behind = (before_end OfRequests (state_in device old last) first.1 (state_of device end) (its last) timely).stands;
           })
 
           pub unheard_ends : EndsUnasked device Does ⊥ OfRequests old stage answer

@@ -48,6 +48,8 @@ pub struct Setup {
     pub mib: u16,
     /// Whether the second copy is stale.
     pub stale: bool,
+    /// Whether another volume has its one copy on the second disk, on which the first then has none.
+    pub another: bool,
     pub table: u32,
     pub pool: u32,
     /// The room of its history, in entries and in bytes.
@@ -64,6 +66,7 @@ pub const MIRROR: Setup = Setup {
     copies: 2,
     mib: 1,
     stale: false,
+    another: false,
     table: 16,
     pool: 16,
     entries: 1000,
@@ -106,9 +109,8 @@ fn map(rt: &(impl Abort + AllocGlobal), copies: u8) -> Rows<Pp> {
     Rows::new(map)
 }
 
-fn volumes(rt: &(impl Abort + AllocGlobal), setup: &Setup) -> Rows<LvRow> {
-    let mut lvs = Vec::new(rt.alloc());
-    let row = LvRow {
+fn volume(rt: &(impl Abort + AllocGlobal), setup: &Setup) -> LvRow {
+    LvRow {
         number: 1,
         name: name(rt, b"lv00"),
         copies: setup.copies,
@@ -116,8 +118,28 @@ fn volumes(rt: &(impl Abort + AllocGlobal), setup: &Setup) -> Rows<LvRow> {
         policy: setup.policy,
         lps: 1,
         map: map(rt, setup.copies),
-    };
-    lvs.push(row).expect(rt, "memory");
+    }
+}
+
+fn another_volume(rt: &(impl Abort + AllocGlobal), setup: &Setup) -> LvRow {
+    let copy = [Pp { disk: 1, pp: 0 }];
+    LvRow {
+        number: 2,
+        name: name(rt, b"lv01"),
+        copies: 1,
+        mode: setup.mode,
+        policy: setup.policy,
+        lps: 1,
+        map: Rows::new(Vec::from_slice(rt.alloc(), &copy).expect(rt, "memory")),
+    }
+}
+
+fn volumes(rt: &(impl Abort + AllocGlobal), setup: &Setup) -> Rows<LvRow> {
+    let mut lvs = Vec::new(rt.alloc());
+    lvs.push(volume(rt, setup)).expect(rt, "memory");
+    if setup.another {
+        lvs.push(another_volume(rt, setup)).expect(rt, "memory");
+    }
     Rows::new(lvs)
 }
 
@@ -284,33 +306,46 @@ pub fn goes_on<S: Shelf>(rt: &impl Abort, driver: &Driver<S>)
     assert!(rt; !matches!(power, Power::Stuck));
 }
 
-/// Submits a write of a block of the volume.
+/// Submits a write of a block of a volume.
+pub fn write_to<S: Shelf>(
+    rt: &impl Abort,
+    driver: &mut Driver<S>,
+    lv: u16,
+    at: u64,
+    word: u64,
+) -> Result<u64, AskFault> {
+    goes_on(rt, driver);
+    assert!(rt; at < 1_099_511_627_776);
+    let ask = Ask::Write { lv, at, count: 1 };
+    driver.submit(1, ask, Some(&fill(word)))
+}
+
+/// So it does of the first volume.
 pub fn write<S: Shelf>(
     rt: &impl Abort,
     driver: &mut Driver<S>,
     at: u64,
     word: u64,
 ) -> Result<u64, AskFault> {
-    goes_on(rt, driver);
-    assert!(rt; at < 1_099_511_627_776);
-    let ask = Ask::Write {
-        lv: 1,
-        at,
-        count: 1,
-    };
-    driver.submit(1, ask, Some(&fill(word)))
+    write_to(rt, driver, 1, at, word)
 }
 
-/// Submits a read of a block of the volume.
-pub fn read<S: Shelf>(rt: &impl Abort, driver: &mut Driver<S>, at: u64) -> Result<u64, AskFault> {
+/// Submits a read of a block of a volume.
+pub fn read_of<S: Shelf>(
+    rt: &impl Abort,
+    driver: &mut Driver<S>,
+    lv: u16,
+    at: u64,
+) -> Result<u64, AskFault> {
     goes_on(rt, driver);
     assert!(rt; at < 1_099_511_627_776);
-    let ask = Ask::Read {
-        lv: 1,
-        at,
-        count: 1,
-    };
+    let ask = Ask::Read { lv, at, count: 1 };
     driver.submit(1, ask, None)
+}
+
+/// So it does of the first volume.
+pub fn read<S: Shelf>(rt: &impl Abort, driver: &mut Driver<S>, at: u64) -> Result<u64, AskFault> {
+    read_of(rt, driver, 1, at)
 }
 
 /// One turn.
@@ -377,11 +412,21 @@ pub fn written<S: Shelf>(rt: &impl Abort, driver: &mut Driver<S>, at: u64, word:
     driver.take(1, id)
 }
 
-/// A read that has landed: the word of the block, or how it failed.
-pub fn got<S: Shelf>(rt: &impl Abort, driver: &mut Driver<S>, at: u64) -> Result<u64, Taken> {
-    let id = read(rt, driver, at).expect(rt, "it is taken");
+/// A read of a volume that has landed: the word of the block, or how it failed.
+pub fn got_of<S: Shelf>(
+    rt: &impl Abort,
+    driver: &mut Driver<S>,
+    lv: u16,
+    at: u64,
+) -> Result<u64, Taken> {
+    let id = read_of(rt, driver, lv, at).expect(rt, "it is taken");
     let _ = drain(rt, driver);
     answer(rt, driver, id)
+}
+
+/// So it is of the first volume.
+pub fn got<S: Shelf>(rt: &impl Abort, driver: &mut Driver<S>, at: u64) -> Result<u64, Taken> {
+    got_of(rt, driver, 1, at)
 }
 
 /// Whether the volume's copy on a disk is stale.

@@ -10,11 +10,11 @@ use lvm_session::{CopyFault, CopyState, OpenFault, Taken};
 use lvm_transfer::Patience;
 use std::process::Abort;
 
-// A partition of the third disk, which the volume hasn't.
-const FREE: Pp = Pp { disk: 2, pp: 0 };
+/// A partition of the third disk, which no volume has.
+pub const FREE: Pp = Pp { disk: 2, pp: 0 };
 
-// Opens a move of a copy, from 1, to a partition on whose disk no other copy of its logical partition stands.
-fn open_move<S: Shelf>(
+/// Opens a move of a copy, from 1, to a partition on whose disk no other copy of its logical partition stands.
+pub fn open_move<S: Shelf>(
     rt: &(impl Abort + AllocGlobal),
     driver: &mut Driver<S>,
     lv: u16,
@@ -27,8 +27,12 @@ fn open_move<S: Shelf>(
     driver.open_move(rt.alloc(), lv, lp, number, to)
 }
 
-// Turns until the move is done, and commits it.
-fn commit<S: Shelf>(rt: &impl Abort, driver: &mut Driver<S>, left: u32) -> Result<(), CommitFault> {
+/// Turns until the move is done, and commits it.
+pub fn commit<S: Shelf>(
+    rt: &impl Abort,
+    driver: &mut Driver<S>,
+    left: u32,
+) -> Result<(), CommitFault> {
     goes_on(rt, driver);
     let mut patience = Patience { left: 1_000 };
     driver.drain(&mut patience)?;

@@ -12,7 +12,7 @@ use Rattle.lvm_session.specs.declared.open.Power.{Power}
 use Rattle.lvm_session.specs.declared.open.Power.TheVariants as power
 use Rattle.lvm_session.specs.Sound.{IsSound}
 use Rattle.lvm_session.specs.State.{Core, State, state}
-use Rattle.lvm_line.specs.passed.Tie.{IsCommittedOn, IsGood, MovesOn}
+use Rattle.lvm_line.specs.passed.Tie.{IsCommittedOn, IsGood, IsGoodSparing, MovesOn}
 use Rattle.lvm_line.proofs.passed.MoveLines.{is_planned, tried_or_same}
 use Rattle.lvm_line.proofs.passed.Tie.{going_moves_on, moves_find_theirs}
 use Rattle.lvm_line.specs.passed.TieCommands.{StandsAfter}
@@ -79,6 +79,9 @@ module _ (run : ℕ) (old new : ScriptState) (between : IsBetween old.moment old
       good_first : IsGood core.history.run may.first first_session
       good_first on past begins = (stands_first past (subst (λ (n : ℕ). RunBegins n past may.first) same_run begins)).tied volumes
 
+      good_sparing : IsGoodSparing core.history.run may.first first_session
+      good_sparing on past begins = (good_first on past begins, (stands_first past (subst (λ (n : ℕ). RunBegins n past may.first) same_run begins)).spares volumes)
+
       begun : RunBegins core.history.run may.past may.first
       begun = subst (λ (n : ℕ). RunBegins n may.past may.first) (sym same_run) may.begins
 
@@ -111,7 +114,7 @@ module _ (run : ℕ) (old new : ScriptState) (between : IsBetween old.moment old
         -- while the session is on, its descriptor alone is found of its group
         pub only_end : end.core.power ≡ power.On → (k : Descriptor) → MayBeFound new.moment.device end.core.descriptor.id k → k ≡ end.core.descriptor
         only_end on k it =
-            tied_only may.past end ((moves.good may.first good_first).0 on may.past begun) (moves.descriptors between.descriptors).leaves k (end_nothing end.core.descriptor.id k it)
+            tied_only may.past end ((moves.good may.first good_sparing).0 on may.past begun).0 (moves.descriptors between.descriptors (λ stuck. let e : power.On ≡ power.Stuck = sym on ∙ stuck in cc)) k (end_nothing end.core.descriptor.id k it)
 
         -- the session that goes on
         pub session_on : end.core.power ≡ power.On → is_unheard answer ≡ false → new.session ≡ Some end.core
