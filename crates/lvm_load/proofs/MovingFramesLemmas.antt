@@ -67,10 +67,10 @@ of_shape old new keeps = record {
 }
 
 -- what a call leaves of it
-record CallLeaves (old new : Core) : Type 0 where
-  history : new.history ≡ old.history
-  faults : new.origin.faults ≡ old.origin.faults
-  power : new.power ≡ old.power
+pub record CallLeaves (old new : Core) : Type 0 where
+  pub history : new.history ≡ old.history
+  pub faults : new.origin.faults ≡ old.origin.faults
+  pub power : new.power ≡ old.power
 
 pub begin_leaves : (counts : Counts) (old new : State) (lv lp number : ℕ) (to : Pp) (answer : Result (Unit {0}) OpenFault) → OpenMoveGives counts old.core new.core lv lp number to answer → CallLeaves old.core new.core
 begin_leaves counts old new lv lp number to answer = by (move_fault old.core lv lp number to)
