@@ -1,0 +1,13 @@
+//! Laws of a disk that joins a group. Each call does nothing: its contract is the law.
+ghost use Rattle.lvm_extend_laws.specs.Joining.{JoiningIsCommitted, JoiningKeeps};
+
+/// While a disk joins a group each history that was kept is kept, whatever of the status and of the next descriptor has landed, where the disk that joins shows
+/// that descriptor first; nothing of the group is found but the two descriptors, and of other groups what was found.
+pub fn joining_keeps()
+    ensures { JoiningKeeps }
+{}
+
+/// Once both records stand on the disk that joins and on members with votes enough by both descriptors, the next one is the committed one.
+pub fn joining_is_committed()
+    ensures { JoiningIsCommitted }
+{}

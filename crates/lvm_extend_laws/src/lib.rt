@@ -1,0 +1,6 @@
+//! What the disks of a group show while a disk joins it.
+#![tactic(auto)]
+
+mod laws;
+
+pub use laws::{joining_is_committed, joining_keeps};
