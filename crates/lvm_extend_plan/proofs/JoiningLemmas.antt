@@ -1,9 +1,9 @@
 -- A group with a member more is valid, and a neighbour of the group without it.
 use Rattle.std.proofs.Common.{◌≡◌, ◌≢◌, inr, ℕ, zero, suc, ◌<◌, ◌+◌, Bool, true, false, List, [], ◌∷◌, ◌++◌, length, get_or, Some, None, refl, sym, ◌∙◌, ap, arith}
-use Rattle.std.specs.Prelude.{◌==◌, find}
+use Rattle.std.specs.Prelude.{◌==◌, ◌&&◌, not, if◌then◌else◌, find}
 use Rattle.std.specs.Option.{option_or}
 use Rattle.std.specs.List.{list_any}
-use Rattle.std.proofs.lemmas.Bool.{eq-eqb, false≢true}
+use Rattle.std.proofs.lemmas.Bool.{eq-eqb, eqb-true, false≢true}
 use Rattle.std.proofs.lemmas.List.{append-nil, length_push, length-map, map-append}
 use Rattle.std.proofs.lemmas.List.Elements.{All-push}
 use Rattle.std.proofs.lemmas.List.Folds.{find-append}
@@ -21,7 +21,7 @@ use Rattle.lvm_member_plan.specs.Steps.{IsStep}
 use Rattle.lvm_member_plan.proofs.ValidityLemmas.{even_valid}
 use Rattle.lvm_member_plan.proofs.NeighbourLemmas.{even_near}
 use Rattle.lvm_extend_plan.specs.Descriptors.{with_member}
-use Rattle.lvm_extend_plan.specs.Steps.{IsStepIn, MayJoin, AreStepsIn}
+use Rattle.lvm_extend_plan.specs.Steps.{IsStepIn, MayJoin, AreStepsIn, before_joining}
 
 -- no member is on the disk
 apart_at : (disk : ℕ) (rows : List PvRow) → list_any (λ (row : PvRow). row.disk == disk) rows ≡ false → (k : ℕ) (d : PvRow) → k < length rows → (get_or rows k d).disk ≢ disk
@@ -89,11 +89,23 @@ module _ (d : Descriptor) (row : PvRow) (valid : IsValid d) (may : MayJoin d row
 
 -- ---- by how many there are
 
-pub at_once : (d : Descriptor) (row : PvRow) → IsValid d → MayJoin d row → (length d.pvs ≡ 2 → d.even ≡ true) → AreStepsIn d row (record { before = None; into = with_member row d })
-at_once d row valid may two = record { before = tt; into = step_in d row valid may two; last = refl }
+-- whether the group becomes even first
+none_before : (d : Descriptor) → (length d.pvs ≡ 2 → d.even ≡ true) → before_joining d ≡ None
+none_before d two = by (length d.pvs == 2) refl
+  where
+    by : (t : Bool) → (length d.pvs == 2) ≡ t → (if t && not d.even then Some (with_even true d) else None) ≡ None
+    by true is = ap (λ (b : Bool). if not b then Some (with_even true d) else None) (two (eqb-true (length d.pvs) 2 is))
+    by false is = refl
 
-pub from_two : (d : Descriptor) (row : PvRow) → IsValid d → MayJoin d row → length d.pvs ≡ 2 → AreStepsIn d row (record { before = Some (with_even true d); into = with_member row d })
-from_two d row valid may two = record {
+some_before : (d : Descriptor) → length d.pvs ≡ 2 → d.even ≡ false → before_joining d ≡ Some (with_even true d)
+some_before d two uneven = (λ t. if eq-eqb (length d.pvs) 2 two t && not (uneven t) then Some (with_even true d) else None)
+
+pub at_once : (d : Descriptor) (row : PvRow) → IsValid d → MayJoin d row → (length d.pvs ≡ 2 → d.even ≡ true) → AreStepsIn d row (record { before = None; into = with_member row d })
+at_once d row valid may two = record { before_is = sym (none_before d two); before = tt; into = step_in d row valid may two; last = refl }
+
+pub from_two : (d : Descriptor) (row : PvRow) → IsValid d → MayJoin d row → length d.pvs ≡ 2 → d.even ≡ false → AreStepsIn d row (record { before = Some (with_even true d); into = with_member row d })
+from_two d row valid may two uneven = record {
+  before_is = sym (some_before d two uneven);
   before = step;
   into = step_in (with_even true d) row step.valid_next (record { member = may.member; apart = may.apart; few = may.few }) (λ is. refl);
   last = refl;

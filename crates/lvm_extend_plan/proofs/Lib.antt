@@ -1,3 +1,4 @@
 pub mod JoiningLemmas
 pub mod OneByOneLemmas
 pub mod JudgedLemmas
+pub mod ExamplesLemmas

@@ -1,10 +1,11 @@
 -- The steps by which one member joins its group.
-use Rattle.std.specs.Prelude.{◌≡◌, ◌≢◌, ℕ, ◌<◌, ◌≤◌, false, List, [], ◌∷◌, length, IfSome, AllPairs, unwrap_or}
+use Rattle.std.specs.Prelude.{◌≡◌, ◌≢◌, ℕ, ◌<◌, ◌≤◌, true, false, ◌&&◌, not, ◌==◌, if◌then◌else◌, List, [], ◌∷◌, length, Option, Some, None, IfSome, AllPairs, unwrap_or}
 use Rattle.lvm_num.specs.declared.descriptor.PvRow.{PvRow}
 use Rattle.lvm_num.specs.declared.descriptor.Descriptor.{Descriptor}
 use Rattle.lvm_num.specs.Descriptor.{IsValid, IsMember, is_member, most_members}
 use Rattle.lvm_change_votes.specs.Meeting.{AreNeighbours, IsOneMore}
 use Rattle.lvm_group.specs.NewGroup.{member_for}
+use Rattle.lvm_member_plan.specs.Descriptors.{with_even}
 use Rattle.lvm_member_plan.specs.Steps.{IsStep}
 use Rattle.lvm_extend_plan.specs.declared.steps.StepsIn.{StepsIn}
 use Rattle.lvm_extend_plan.specs.Descriptors.{with_member, extended}
@@ -24,8 +25,13 @@ pub record MayJoin (d : Descriptor) (row : PvRow) : Type 0 where
   pub apart : is_member d row.disk ≡ false
   pub few : length d.pvs < most_members d.big
 
--- So it joins by one step, before which its group may become even.
+-- two members that aren't even become so first
+abbrev pub before_joining : Descriptor → Option Descriptor
+before_joining d = if length d.pvs == 2 && not d.even then Some (with_even true d) else None
+
+-- So it joins by one step, before which its group becomes even where it has to.
 pub record AreStepsIn (d : Descriptor) (row : PvRow) (s : StepsIn) : Type 0 where
+  pub before_is : s.before ≡ before_joining d
   pub before : IfSome s.before (IsStep [] d)
   pub into : IsStepIn row (unwrap_or s.before d) s.into
   pub last : s.into ≡ with_member row d

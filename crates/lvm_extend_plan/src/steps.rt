@@ -1,5 +1,5 @@
 //! The descriptors by which one member joins its group.
-ghost use Rattle.std.specs.Prelude.{◌≡◌, length, true, IfOk};
+ghost use Rattle.std.specs.Prelude.{◌≡◌, length, false, true, IfOk};
 ghost use Rattle.lvm_num.specs.Descriptor.{IsValid};
 ghost use Rattle.lvm_extend_plan.specs.Steps.{MayJoin, AreStepsIn};
 
@@ -34,6 +34,7 @@ fn from_two(alloc: Global, d: &Descriptor, row: PvRow) -> Result<StepsIn, Memory
     requires valid { IsValid d.now }
     requires may { MayJoin d.now row }
     requires two { length d.now.pvs ≡ 2 }
+    requires uneven { d.now.even ≡ false }
     ensures { IfOk result (AreStepsIn d.now row) }
 {
     let before = with_even(alloc, d, true)?;

@@ -10,4 +10,4 @@ returns c =
     let d = c.args.d.now in
     let row = c.args.row in
     subst (λ (g : Descriptor). AreStepsIn d row (record { before = Some g; into = c.in_ok-into.into })) (sym c.in_ok-before.ensures)
-    (subst (λ (g : Descriptor). AreStepsIn d row (record { before = Some (with_even true d); into = g })) (sym c.in_ok-into.ensures) (from_two d row c.requires.valid c.requires.may c.requires.two))
+    (subst (λ (g : Descriptor). AreStepsIn d row (record { before = Some (with_even true d); into = g })) (sym c.in_ok-into.ensures) (from_two d row c.requires.valid c.requires.may c.requires.two c.requires.uneven))
