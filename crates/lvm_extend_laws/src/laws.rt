@@ -1,4 +1,5 @@
 //! Laws of a disk that joins a group. Each call does nothing: its contract is the law.
+ghost use Rattle.lvm_extend_laws.specs.Examples.{SecondsJoin};
 ghost use Rattle.lvm_extend_laws.specs.Joining.{JoiningIsCommitted, JoiningKeeps};
 
 /// While a disk joins a group each history that was kept is kept, whatever of the status and of the next descriptor has landed, where the disk that joins shows
@@ -10,4 +11,9 @@ pub fn joining_keeps()
 /// Once both records stand on the disk that joins and on members with votes enough by both descriptors, the next one is the committed one.
 pub fn joining_is_committed()
     ensures { JoiningIsCommitted }
+{}
+
+/// There is a group that a disk joins: one member, with quorum checking or without.
+pub fn disks_may_join()
+    ensures { SecondsJoin }
 {}
