@@ -99,7 +99,7 @@ module _ (group next : Descriptor) (row : PvRow) (there : Disks) (takes : TakesI
       by false is = inr is
 
 -- one of the set, or the disk
-of_either : (disk : ℕ) (set : Disks) (d : ℕ) → IsTrue (with_disk disk set d) → (d ≡ disk) ⊎ IsTrue (set d)
+pub of_either : (disk : ℕ) (set : Disks) (d : ℕ) → IsTrue (with_disk disk set d) → (d ≡ disk) ⊎ IsTrue (set d)
 of_either disk set d is = by (d == disk) refl is
   where
     by : (b : Bool) → (d == disk) ≡ b → (b || set d) ≡ true → (d ≡ disk) ⊎ IsTrue (set d)

@@ -3,4 +3,4 @@
 
 mod laws;
 
-pub use laws::{disks_may_join, joining_is_committed, joining_keeps};
+pub use laws::{disks_may_join, joining_is_committed, joining_keeps, joining_writes_keep};
