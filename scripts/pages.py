@@ -18,7 +18,7 @@ lines behind `$ lvm sim ..` begin with `> `, these are the script, and under eac
 
 LVM names the program; without it crates/lvm/out/lvm is taken, which `rt run` builds.
 """
-import os, re, statistics, subprocess, sys, tempfile
+import functools, os, re, statistics, subprocess, sys, tempfile
 
 ROOT = os.path.dirname(os.path.dirname(os.path.abspath(__file__)))
 LVM = os.path.abspath(os.environ.get("LVM") or f"{ROOT}/crates/lvm/out/lvm")
@@ -421,12 +421,26 @@ def ways():
     return sum(from_here(it) for it in deps)
 
 
+def behind(module, name):
+    """How many definitions one rests on, itself among them, and of how many lines, comments and types of the code aside."""
+    from plain import Specs
+    specs, seen, todo = Specs(set()), set(), [(module, name)]
+    while todo:
+        at = todo.pop()
+        if at not in seen:
+            seen.add(at)
+            todo += specs.below(*at)
+    return len(seen), sum(bool(line.strip()) for of, it in seen for line in specs.load(of)[2][it].split("\n"))
+
+
 NUMBER_WORDS = ["no", "one", "two", "three", "four", "five", "six", "seven", "eight", "nine", "ten"]
 
 
+@functools.lru_cache(None)
 def numbers_wanted():
     must, tried, deps = edits_under("crates"), edits_under("scripts/wrong-bodies"), graph()
     return [
+        (r"`UpholdsPlainly` in `lvm_top/specs/Plain.antt`. It rests on (\d+) definitions of (\d+) lines", list(behind("Rattle.lvm_top.specs.Plain", "UpholdsPlainly"))),
         (r"(\d+) edits stand under `must-fail/` of (\w+) crates", [sum(must.values()), NUMBER_WORDS[len(must)]]),
         (r"(\d+) wrong bodies of (\d+) crates stand under", [sum(tried.values()), len(tried)]),
         (r"With (\d+) crates and (\d+) names of them in these lines there are ([\d,]+) ways", [len(deps), sum(it in deps for below in deps.values() for it in below), f"{ways():,}"]),
