@@ -1,5 +1,6 @@
 -- The two records by which a disk joins a group are written: what crash images show meanwhile.
-use Rattle.std.specs.Prelude.{◌≡◌, ◌≢◌, ◌⊎◌, ℕ, true, List, None, Ok, IsTrue}
+use Rattle.std.specs.Prelude.{◌≡◌, ◌≢◌, ◌⊎◌, ℕ, true, not, List, None, Ok, IsTrue}
+use Rattle.lvm_num.specs.declared.record.Kind.{Kind}
 use Rattle.lvm_num.specs.declared.record.Kind.TheVariants as kind
 use Rattle.lvm_num.specs.declared.record.Stamp.{Stamp}
 use Rattle.lvm_num.specs.declared.record.Framed.{Framed}
@@ -10,9 +11,11 @@ use Rattle.lvm_num.specs.DescriptorBytes.{descriptor_of}
 use Rattle.lvm_num.specs.Disks.{Disks}
 use Rattle.lvm_num.specs.Record.{Frames}
 use Rattle.lvm_num.specs.StatusBytes.{status_of}
+use Rattle.lvm_num.specs.Votes.{CanWrite}
 use Rattle.lvm_vol.specs.Facts.{Fact}
 use Rattle.lvm_disk.specs.Device.{Image, IsWholeImage}
 use Rattle.lvm_rec.specs.declared.homes.Homes.{Homes}
+use Rattle.lvm_rec.specs.Homes.{second_slots}
 use Rattle.lvm_kept.specs.Contents.{contents_of, has_records}
 use Rattle.lvm_kept.specs.Group.{passes, is_of, has_room}
 use Rattle.lvm_kept.specs.Kept.{Kept}
@@ -72,3 +75,20 @@ abbrev pub JoiningWritesKeep : Type 0
 JoiningWritesKeep = (old new : Image) (facts : List Fact) (group next : Descriptor) (row : PvRow) (status : Status) (there : Disks) (stamp : Stamp) (homes : Homes) (r : JoinRecords)
     → IsWholeImage old → LetsWrite old group next row status there stamp homes → AreJoinRecords r next status stamp → ChangesBy (IsOfJoining r row.disk there homes) old new → StandsFirst r row.disk there homes old new
     → Kept (contents_of old) facts → Kept (contents_of new) facts × FindsTwo (contents_of new) group next × LeavesOthers (contents_of old) (contents_of new) group.id
+
+-- ---- once they stand
+
+-- Both stand whole on the disk that joins and on some others, of which the next record of each kind goes to the other slot.
+pub record StandsJoined (r : JoinRecords) (disk : ℕ) (there written : Disks) (homes after : Homes) (old new : Image) : Type 0 where
+  pub changes : ChangesBy (IsOfJoining r disk there homes) old new
+  pub joins : IsTrue (written disk)
+  pub among : (d : ℕ) → IsTrue (written d) → IsTrue (with_disk disk there d)
+  pub states : (d : ℕ) → IsTrue (written d) → StandsOn (status_write r disk there homes) new d
+  pub describes : (d : ℕ) → IsTrue (written d) → StandsOn (descriptor_write r disk there homes) new d
+  pub turns : (k : Kind) (d : ℕ) → IsTrue (written d) → second_slots k after d ≡ not (second_slots k homes d)
+
+-- Where these have votes enough to write by both descriptors, the image holds the group with the member more as committed.
+abbrev pub JoiningIsHeld : Type 0
+JoiningIsHeld = (old new : Image) (group next : Descriptor) (row : PvRow) (status : Status) (there written : Disks) (stamp : Stamp) (homes after : Homes) (r : JoinRecords)
+    → IsWholeImage old → LetsWrite old group next row status there stamp homes → AreJoinRecords r next status stamp → IsNoLater r.status.stamp r.descriptor.stamp
+    → StandsJoined r row.disk there written homes after old new → CanWrite group written → CanWrite next written → HoldsCommitted new next r.told written r.descriptor.stamp after

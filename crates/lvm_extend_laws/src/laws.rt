@@ -1,7 +1,7 @@
 //! Laws of a disk that joins a group. Each call does nothing: its contract is the law.
 ghost use Rattle.lvm_extend_laws.specs.Examples.{SecondsJoin};
 ghost use Rattle.lvm_extend_laws.specs.Joining.{JoiningIsCommitted, JoiningKeeps};
-ghost use Rattle.lvm_extend_laws.specs.Writing.{JoiningWritesKeep};
+ghost use Rattle.lvm_extend_laws.specs.Writing.{JoiningIsHeld, JoiningWritesKeep};
 
 /// While a disk joins a group each history that was kept is kept, whatever of the status and of the next descriptor has landed, where the disk that joins shows
 /// that descriptor first; nothing of the group is found but the two descriptors, and of other groups what was found.
@@ -22,4 +22,10 @@ pub fn disks_may_join()
 /// So it is of crash images while the two records are written: whatever of their sectors has landed, each history that was kept is kept.
 pub fn joining_writes_keep()
     ensures { JoiningWritesKeep }
+{}
+
+/// Once both stand whole on the disk that joins and on members with votes enough by both descriptors, the image holds the next one as committed, and the next record of
+/// each kind spares the newest.
+pub fn joining_is_held()
+    ensures { JoiningIsHeld }
 {}

@@ -3,4 +3,6 @@
 
 mod laws;
 
-pub use laws::{disks_may_join, joining_is_committed, joining_keeps, joining_writes_keep};
+pub use laws::{
+    disks_may_join, joining_is_committed, joining_is_held, joining_keeps, joining_writes_keep,
+};
