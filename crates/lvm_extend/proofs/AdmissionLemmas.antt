@@ -1,4 +1,5 @@
 -- What the writes of both records to a disk that joins do.
+use Rattle.lvm_commit.specs.LawsOfFinding.{FindsNoMore, FindsNoMoreOn}
 use Rattle.std.proofs.Common.{◌≡◌, ◌≢◌, inl, inr, ⊎_elim, ℕ, ◌+◌, ◌<◌, ◌≤◌, Bool, true, false, ◌&&◌, not, List, length, Some, refl, sym, ap, subst, ◌∙◌, arith}
 use Rattle.std.specs.Prelude.{◌==◌, IfSome, IsTrue, is_some, if◌then◌else◌}
 use Rattle.std.proofs.lemmas.Bool.{eq-eqb, eqb-true, ne_eqb, cases_eq}
@@ -20,7 +21,7 @@ use Rattle.lvm_vol.specs.Facts.{Fact}
 use Rattle.lvm_disk.specs.Counts.{Rose}
 use Rattle.lvm_disk.specs.Device.{Media, Image, Device, image_of, MayLeave, HasSectors, IsWholeImage}
 use Rattle.lvm_disk.specs.Paths.{DeviceStep, Path}
-use Rattle.lvm_disk.proofs.PathsLemmas.{map-path, append-path}
+use Rattle.lvm_disk.proofs.PathsLemmas.{map-path, append-path, last-path}
 use Rattle.lvm_kept.specs.Contents.{contents_of, descriptor_on}
 use Rattle.lvm_kept.specs.Kept.{Kept}
 use Rattle.lvm_kept.specs.Plans.{ChangesBy}
@@ -37,7 +38,7 @@ use Rattle.lvm_write.specs.Written.{write_of, KeepsShelf, IsWriting, StandsTold,
 use Rattle.lvm_write.proofs.passed.Vgda.{spelled_is_read}
 use Rattle.lvm_write.proofs.passed.Vgsa.{is_read_again}
 use Rattle.lvm_write.proofs.PartsLemmas.Transfers.{keeps_then, spends_then, darkened_then, given_up_then}
-use Rattle.lvm_write.proofs.WrittenLemmas.Writing.{if_told, told_at, both_from}
+use Rattle.lvm_write.proofs.WrittenLemmas.Writing.{if_told, told_at, both_from, both_at}
 use Rattle.lvm_commit.specs.Committed.{next_stamp}
 use Rattle.lvm_commit.proofs.LawsOfWritesLemmas.Holding.{with_told, told_before}
 use Rattle.lvm_commit.proofs.SettlingLemmas.Chaining.{keeps_wider}
@@ -45,7 +46,7 @@ use Rattle.lvm_steps.specs.Laws.{IsNoLater}
 use Rattle.lvm_change.specs.declared.turn.Transition.{Transition}
 use Rattle.lvm_extend_laws.specs.Joining.{with_disk}
 use Rattle.lvm_extend_laws.specs.Writing.{JoinRecords, status_write, descriptor_write, IsOfJoining, AreJoinRecords, LetsWrite, StandsFirst}
-use Rattle.lvm_extend_laws.proofs.WritingLemmas.{joining_writes_keep}
+use Rattle.lvm_extend_laws.proofs.WritingLemmas.{joining_writes_keep, joining_writes_find}
 use Rattle.lvm_extend.specs.declared.admission.Admitted.{Admitted}
 use Rattle.lvm_extend.specs.declared.admission.Admitted.TheVariants as admitted
 use Rattle.lvm_extend.specs.Admission.{no_disk, alone, PutEnds, join_records, MayAdmit, IsBeforeJoining, AdmitEnds, Admits}
@@ -158,6 +159,13 @@ module _ (turn : Transition) (disk : ℕ) (stamp : Stamp) (homes : Homes) (old :
       (joining_writes_keep (image_of old.sizes media) image facts turn.was.now turn.next.now b.0 b.1 b.2 stamp homes r (told_at old.media (λ m. IsWholeImage (image_of old.sizes m)) media told sectors) b.5 (records_of b.1 b.4)
       (by_wider b.0 b.2 b.3 (image_of old.sizes media) image by) (stands_first b.0 b.2 b.3 (image_of old.sizes media) image by) (kept (image_of old.sizes media) (media_may old media told))).0
 
+  -- and nothing more is found than the next descriptor
+  finds_by : Before → (media : Media) → old.media ≡ Some media → (image : Image) → ChangesBy Plan_of (image_of old.sizes media) image → FindsNoMore turn.next.now (contents_of (image_of old.sizes media)) (contents_of image)
+  finds_by before media told image by =
+      let b = told_at old.media (λ m. (row : PvRow) × (status : Status) × (there : Disks) × (row.disk ≡ disk) × IsRerowed turn.next.now status turn.told.now × LetsWrite (image_of old.sizes m) turn.was.now turn.next.now row status there stamp homes) media told before in
+      joining_writes_find (image_of old.sizes media) image turn.was.now turn.next.now b.0 b.1 b.2 stamp homes r (told_at old.media (λ m. IsWholeImage (image_of old.sizes m)) media told sectors) b.5 (records_of b.1 b.4)
+      (by_wider b.0 b.2 b.3 (image_of old.sizes media) image by) (stands_first b.0 b.2 b.3 (image_of old.sizes media) image by)
+
   -- ---- the status
 
   module _ (slots : Homes) (p q : ℕ) (m : Device) (leaves : DiskWritesLeave (alone disk) (IsOfRecord ws) p q old m) where
@@ -173,9 +181,14 @@ module _ (turn : Transition) (disk : ℕ) (stamp : Stamp) (homes : Homes) (old :
             let by : ChangesBy (IsOfRecord ws) (image_of old.sizes was.0) image = told_at old.media (λ x. (i : Image) → MayLeave d i → ChangesBy (IsOfRecord ws) (image_of old.sizes x) i) was.0 was.1 writing image left in
             kept_by before was.0 was.1 image (record { same = by.same; each = λ e s. ⊎_elim (λ still. inl still) (λ of. inr (inl of)) (by.each e s) }) facts kept
 
+    first_finds : Before → FindsNoMoreOn turn.next.now old m
+    first_finds before image left = if_told old.media (λ media. FindsNoMore turn.next.now (contents_of (image_of old.sizes media)) (contents_of image)) (λ media told.
+        let by : ChangesBy (IsOfRecord ws) (image_of old.sizes media) image = told_at old.media (λ x. (i : Image) → MayLeave m i → ChangesBy (IsOfRecord ws) (image_of old.sizes x) i) media told (last-path leaves.moments) image left in
+        finds_by before media told image (record { same = by.same; each = λ e s. ⊎_elim (λ still. inl still) (λ of. inr (inl of)) (by.each e s) }))
+
     -- it went no further
     pub stopped : (number : ℕ) (result : Admitted) → ((buf : Buffer) → result ≡ admitted.Done buf → ⊥) → PutEnds ws homes slots disk number p old m result → Admits turn disk stamp homes slots number p q old m result
-    stopped number result never ends = record { ends = by result never ends; keeps = first_keeps; spends = leaves.spends; kept = first_path }
+    stopped number result never ends = record { ends = by result never ends; keeps = first_keeps; spends = leaves.spends; kept = first_path; finds = first_finds }
       where
         by : (result : Admitted) → ((buf : Buffer) → result ≡ admitted.Done buf → ⊥) → PutEnds ws homes slots disk number p old m result → AdmitEnds turn disk stamp homes slots number p old m result
         by (admitted.Done buf) never ends = absurd (never buf refl)
@@ -220,6 +233,14 @@ module _ (turn : Transition) (disk : ℕ) (stamp : Stamp) (homes : Homes) (old :
                 kept_by before back.0 back.1 image
                 (further Plan_of (image_of old.sizes back.0) (image_of m.sizes mid.0) image first by.same (λ e s. ⊎_elim (λ still. inl still) (λ of. inr (to_plan e s (image.sector e s) of)) (by.each e s))) facts kept
 
+        second_finds : Before → FindsNoMoreOn turn.next.now old new
+        second_finds before image left = if_told old.media (λ media. FindsNoMore turn.next.now (contents_of (image_of old.sizes media)) (contents_of image)) (λ media told.
+            let mid = both_at old.media m.media (λ was is. ChangesBy (IsOfRecord ws) (image_of old.sizes was) (image_of m.sizes is)) media leaves.keeps.media told in
+            let by : ChangesBy (IsOfRecord w2) (image_of m.sizes mid.0) image = told_at m.media (λ x. (i : Image) → MayLeave new i → ChangesBy (IsOfRecord w2) (image_of m.sizes x) i) mid.0 mid.1 (last-path two.moments) image left in
+            let first : ChangesBy Plan_of (image_of old.sizes media) (image_of m.sizes mid.0) = record { same = mid.2.same; each = λ e s. ⊎_elim (λ still. inl still) (λ of. inr (inl of)) (mid.2.each e s) } in
+            finds_by before media told image
+            (further Plan_of (image_of old.sizes media) (image_of m.sizes mid.0) image first by.same (λ e s. ⊎_elim (λ still. inl still) (λ of. inr (to_plan e s (image.sector e s) of)) (by.each e s))))
+
         status_stands : StandsTold ws new disk
         status_stands = if_told new.media (λ media. StandsOn ws (image_of new.sizes media) disk) (λ k told.
             let mid = both_from m.media new.media (λ was is. ChangesBy (IsOfRecord w2) (image_of m.sizes was) (image_of new.sizes is)) k two.keeps.media told in
@@ -257,6 +278,7 @@ module _ (turn : Transition) (disk : ℕ) (stamp : Stamp) (homes : Homes) (old :
           keeps = keeps_then (alone disk) Plan_of old m new first_keeps (keeps_wider (alone disk) (alone disk) (IsOfRecord w2) Plan_of m new (λ d off. off) to_plan two.keeps);
           spends = spends_then p q z old m new leaves.spends two.spends;
           kept = append-path first_path second_path;
+          finds = second_finds;
         }
           where
             by : (result : Admitted) → PutEnds w2 slots final disk buf.number q m new result → AdmitEnds turn disk stamp homes final number p old new result

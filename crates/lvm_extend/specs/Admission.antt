@@ -18,6 +18,7 @@ use Rattle.lvm_write.specs.Parts.{Spends}
 use Rattle.lvm_write.specs.Writes.{IsBack}
 use Rattle.lvm_write.specs.Written.{HasRoom, KeepsShelf, StandsTold, IsDarkened, IsGivenUp}
 use Rattle.lvm_commit.specs.Committed.{next_stamp}
+use Rattle.lvm_commit.specs.LawsOfFinding.{FindsNoMoreOn}
 use Rattle.lvm_change.specs.declared.turn.Transition.{Transition}
 use Rattle.lvm_change.specs.Transition.{AreRecords}
 use Rattle.lvm_extend_laws.specs.Joining.{with_disk}
@@ -83,9 +84,11 @@ AdmitEnds turn disk stamp homes slots number patience old new (admitted.Failed b
 AdmitEnds turn disk stamp homes slots number patience old new admitted.Dark = IsDarkened number old new
 AdmitEnds turn disk stamp homes slots number patience old new admitted.Stuck = IsGivenUp number patience old new
 
--- Whatever the answer: only sectors of the two records were brought to that disk alone, and what was kept is kept at each moment, where the disk may join.
+-- Whatever the answer: only sectors of the two records were brought to that disk alone; and where the disk may join, what was kept is kept at each moment, and nothing more is
+-- found than the next descriptor.
 pub record Admits (turn : Transition) (disk : ℕ) (stamp : Stamp) (homes slots : Homes) (number before after : ℕ) (old new : Device) (result : Admitted) : Type 0 where
   pub ends : AdmitEnds turn disk stamp homes slots number before old new result
   pub keeps : KeepsShelf (alone disk) (IsOfJoining (join_records turn stamp) disk no_disk homes) old new
   pub spends : Spends before after old new
   pub kept : Path DeviceStep (λ d. IsBeforeJoining turn disk stamp homes old → StaysKept old d) old new
+  pub finds : IsBeforeJoining turn disk stamp homes old → FindsNoMoreOn turn.next.now old new

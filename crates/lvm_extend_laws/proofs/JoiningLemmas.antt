@@ -35,6 +35,7 @@ use Rattle.lvm_kept.proofs.GroupLemmas.{finds_before}
 use Rattle.lvm_kept.proofs.KeptLemmas.{same_blocks}
 use Rattle.lvm_steps.proofs.GroupLemmas.Members.{member_of_parts}
 use Rattle.lvm_commit.specs.Committed.{ShowsCommitted}
+use Rattle.lvm_commit.specs.LawsOfFinding.{FindsNoMore}
 use Rattle.lvm_commit.specs.LawsOfVolumes.{LeavesOthers}
 use Rattle.lvm_commit.proofs.LawsLemmas.Found.{shows_group}
 use Rattle.lvm_commit.proofs.LawsOfFindingLemmas.NoMore.{descriptor_finds_no_more}
@@ -46,7 +47,7 @@ use Rattle.lvm_change_laws.proofs.TwoLemmas.{valid_are_two}
 use Rattle.lvm_change_laws.proofs.TurningLemmas.{turn_keeps, reads_are_two}
 use Rattle.lvm_change_laws.proofs.StatingLemmas.{state_turn_keeps}
 use Rattle.lvm_change_laws.proofs.CommittedLemmas.{committed_serves, turn_is_committed}
-use Rattle.lvm_extend_laws.specs.Joining.{with_disk, TakesIn, LetsJoin, IsJoining, JoiningKeeps, HasJoined, JoiningIsCommitted}
+use Rattle.lvm_extend_laws.specs.Joining.{with_disk, TakesIn, LetsJoin, IsJoining, JoiningFinds, JoiningKeeps, HasJoined, JoiningIsCommitted}
 
 not_none : {X : Type 0} (x : X) → Some x ≡ None → ⊥
 not_none x is = cc
@@ -317,11 +318,17 @@ module _ (old : Contents) (group next : Descriptor) (row : PvRow) (status : Stat
 
     -- ---- once both stand
 
+    pub finds_no_more : FindsNoMore next old new
+    finds_no_more other k (disks, f) = ⊎_elim
+        (λ (before : IsFound mid other k). inl (before.0, finds_before old new.status old.note old.block before.0 other k before.1))
+        (λ (is : (other ≡ described.value.id) × (k ≡ described.value)). inr (is.0 ∙ ap (λ (g : Descriptor). g.id) lets.value, is.1 ∙ lets.value))
+        (descriptor_finds_no_more (with_disk x there) described mid new within_new (λ d r shown its. lets.descriptors d r shown (its ∙ described_id)) changes other k (disks, f))
+
     finds_two : FindsTwo new group next
     finds_two disks k f = ⊎_elim
-        (λ (before : IsFound mid id k). inl (lets.shows.only before.0 k (finds_before old new.status old.note old.block before.0 id k before.1)))
-        (λ (is : (id ≡ described.value.id) × (k ≡ described.value)). inr (is.1 ∙ lets.value))
-        (descriptor_finds_no_more (with_disk x there) described mid new within_new (λ d r shown its. lets.descriptors d r shown (its ∙ described_id)) changes id k (disks, f))
+        (λ (before : IsFound old id k). inl (lets.shows.only before.0 k before.1))
+        (λ (is : (id ≡ next.id) × (k ≡ next)). inr is.1)
+        (finds_no_more id k (disks, f))
 
     pub committed : (written : Disks) → HasJoined new group next row.disk there written stated described → ShowsCommitted new next stated.value written
     committed written joined = turn_is_committed new group next written written described stated.value stated within_new (record {
@@ -352,3 +359,6 @@ joining_keeps old new facts group next row status there stated described within 
 
 pub joining_is_committed : JoiningIsCommitted
 joining_is_committed old new group next row status there written stated described within within_new lets joining joined = committed old group next row status there stated described within lets new within_new joining written joined
+
+pub joining_finds : JoiningFinds
+joining_finds old new group next row status there stated described within within_new lets joining = finds_no_more old group next row status there stated described within lets new within_new joining

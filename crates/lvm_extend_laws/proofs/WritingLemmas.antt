@@ -41,8 +41,8 @@ use Rattle.lvm_write.proofs.ShowsLemmas.{descriptor_may_be_written, status_may_b
 use Rattle.lvm_commit.specs.Committed.{next_stamp, HoldsCommitted}
 use Rattle.lvm_commit.proofs.LawsOfVolumesLemmas.Volumes.{next_is_later}
 use Rattle.lvm_extend_laws.specs.Joining.{with_disk, LetsJoin, IsJoining, HasJoined}
-use Rattle.lvm_extend_laws.specs.Writing.{JoinRecords, status_write, descriptor_write, IsOfJoining, AreJoinRecords, LetsWrite, StandsFirst, JoiningWritesKeep, StandsJoined, JoiningIsHeld}
-use Rattle.lvm_extend_laws.proofs.JoiningLemmas.{of_either, joining_keeps, joining_is_committed}
+use Rattle.lvm_extend_laws.specs.Writing.{JoinRecords, status_write, descriptor_write, IsOfJoining, AreJoinRecords, LetsWrite, StandsFirst, JoiningWritesKeep, JoiningWritesFind, StandsJoined, JoiningIsHeld}
+use Rattle.lvm_extend_laws.proofs.JoiningLemmas.{of_either, joining_finds, joining_keeps, joining_is_committed}
 
 -- ---- places
 
@@ -338,3 +338,8 @@ joining_writes_keep old new facts group next row status there stamp homes r whol
 pub joining_is_held : JoiningIsHeld
 joining_is_held old new group next row status there written stamp homes after r whole lets records order stands enough enough_too =
     held old new group next row status there stamp homes r whole lets records stands.changes written after order stands enough enough_too
+
+pub joining_writes_find : JoiningWritesFind
+joining_writes_find old new group next row status there stamp homes r whole lets records by first =
+    joining_finds (contents_of old) (contents_of new) group next row status there (stated old new group next row status there stamp homes r whole lets records by) (described old new group next row status there stamp homes r whole lets records by)
+    (images_within old) (images_within new) (lets_join old new group next row status there stamp homes r whole lets records by) (joining old new group next row status there stamp homes r whole lets records by first)

@@ -14,6 +14,7 @@ use Rattle.lvm_kept.specs.Committed.{IsWithinDisks}
 use Rattle.lvm_kept.specs.Kept.{Kept}
 use Rattle.lvm_status.specs.Rerowed.{IsRerowed}
 use Rattle.lvm_commit.specs.Committed.{ShowsCommitted}
+use Rattle.lvm_commit.specs.LawsOfFinding.{FindsNoMore}
 use Rattle.lvm_commit.specs.LawsOfVolumes.{LeavesOthers}
 use Rattle.lvm_change_votes.specs.Meeting.{IsOneMore}
 use Rattle.lvm_change_laws.specs.Turning.{FindsTwo}
@@ -61,6 +62,11 @@ abbrev pub JoiningKeeps : Type 0
 JoiningKeeps = (old new : Contents) (facts : List Fact) (group next : Descriptor) (row : PvRow) (status : Status) (there : Disks) (stated : Stamped Status) (described : Stamped Descriptor)
     → IsWithinDisks old → IsWithinDisks new → LetsJoin old group next row status there stated described → IsJoining old new row.disk there stated described → Kept old facts
     → Kept new facts × FindsTwo new group next × LeavesOthers old new group.id
+
+-- And whatever is found was found before, or is the next descriptor.
+abbrev pub JoiningFinds : Type 0
+JoiningFinds = (old new : Contents) (group next : Descriptor) (row : PvRow) (status : Status) (there : Disks) (stated : Stamped Status) (described : Stamped Descriptor)
+    → IsWithinDisks old → IsWithinDisks new → LetsJoin old group next row status there stated described → IsJoining old new row.disk there stated described → FindsNoMore next old new
 
 -- ---- once they stand
 

@@ -26,6 +26,7 @@ use Rattle.lvm_steps.specs.Laws.{IsNoLater}
 use Rattle.lvm_write.specs.Homes.{SparesNewest}
 use Rattle.lvm_write.specs.Written.{write_of}
 use Rattle.lvm_commit.specs.Committed.{next_stamp, HoldsCommitted}
+use Rattle.lvm_commit.specs.LawsOfFinding.{FindsNoMore}
 use Rattle.lvm_commit.specs.LawsOfVolumes.{LeavesOthers}
 use Rattle.lvm_change_laws.specs.Turning.{FindsTwo}
 use Rattle.lvm_extend_laws.specs.Joining.{with_disk, TakesIn}
@@ -75,6 +76,12 @@ abbrev pub JoiningWritesKeep : Type 0
 JoiningWritesKeep = (old new : Image) (facts : List Fact) (group next : Descriptor) (row : PvRow) (status : Status) (there : Disks) (stamp : Stamp) (homes : Homes) (r : JoinRecords)
     → IsWholeImage old → LetsWrite old group next row status there stamp homes → AreJoinRecords r next status stamp → ChangesBy (IsOfJoining r row.disk there homes) old new → StandsFirst r row.disk there homes old new
     → Kept (contents_of old) facts → Kept (contents_of new) facts × FindsTwo (contents_of new) group next × LeavesOthers (contents_of old) (contents_of new) group.id
+
+-- And whatever is found was found before, or is the next descriptor.
+abbrev pub JoiningWritesFind : Type 0
+JoiningWritesFind = (old new : Image) (group next : Descriptor) (row : PvRow) (status : Status) (there : Disks) (stamp : Stamp) (homes : Homes) (r : JoinRecords)
+    → IsWholeImage old → LetsWrite old group next row status there stamp homes → AreJoinRecords r next status stamp → ChangesBy (IsOfJoining r row.disk there homes) old new → StandsFirst r row.disk there homes old new
+    → FindsNoMore next (contents_of old) (contents_of new)
 
 -- ---- once they stand
 
