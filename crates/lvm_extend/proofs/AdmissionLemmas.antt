@@ -79,10 +79,10 @@ well_alone disk failed well = λ t d. each d t
 
 -- ---- the records
 
-no_later_one : (stamp : Stamp) → IsNoLater stamp stamp
+pub no_later_one : (stamp : Stamp) → IsNoLater stamp stamp
 no_later_one stamp = grind (arith, nat_tests)
 
-no_later_two : (stamp : Stamp) → IsNoLater (next_stamp stamp) (next_stamp (next_stamp stamp))
+pub no_later_two : (stamp : Stamp) → IsNoLater (next_stamp stamp) (next_stamp (next_stamp stamp))
 no_later_two stamp = grind (arith, nat_tests)
 
 module _ (turn : Transition) (disk : ℕ) (stamp : Stamp) (homes : Homes) (old : Device) (sectors : HasSectors old) (may : MayAdmit turn disk stamp old) where

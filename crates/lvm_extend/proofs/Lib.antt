@@ -1,1 +1,2 @@
 pub mod AdmissionLemmas
+pub mod SpreadingLemmas

@@ -2,5 +2,7 @@
 #![tactic(auto)]
 
 mod admission;
+mod spreading;
 
 pub use admission::{Admitted, admit};
+pub use spreading::spread;
