@@ -1,4 +1,5 @@
 -- What the writes of both records to the members do behind the disk that joins.
+use Rattle.lvm_commit.specs.LawsOfFinding.{FindsNoMore, FindsNoMoreOn}
 use Rattle.lvm_extend_laws.specs.Joining.{with_disk}
 use Rattle.lvm_change.proofs.TransitionLemmas.{back_then}
 use Rattle.lvm_change.specs.Transition.{IsByBoth, HasFewVotes, ComesBack, IsOfTransition}
@@ -24,7 +25,7 @@ use Rattle.lvm_num.specs.StatusBytes.{status_of}
 use Rattle.lvm_vol.specs.Facts.{Fact}
 use Rattle.lvm_disk.specs.Device.{Media, Image, Device, image_of, MayLeave, IsWholeImage}
 use Rattle.lvm_disk.specs.Paths.{DeviceStep, Path, Here}
-use Rattle.lvm_disk.proofs.PathsLemmas.{map-path, append-path}
+use Rattle.lvm_disk.proofs.PathsLemmas.{map-path, append-path, last-path}
 use Rattle.lvm_kept.specs.Contents.{contents_of}
 use Rattle.lvm_kept.specs.Kept.{Kept}
 use Rattle.lvm_kept.specs.Plans.{Plan, ChangesBy}
@@ -37,14 +38,14 @@ use Rattle.lvm_write.specs.Writes.{DiskWritesLeave, EachTried}
 use Rattle.lvm_write.specs.Written.{KeepsShelf, IsWriting, StandsTold, write_of, written_well}
 use Rattle.lvm_write.proofs.passed.Vgda.{spelled_is_read}
 use Rattle.lvm_write.proofs.passed.Vgsa.{is_read_again}
-use Rattle.lvm_write.proofs.WrittenLemmas.Writing.{if_told, told_at, both_from, both_then, writing_here}
+use Rattle.lvm_write.proofs.WrittenLemmas.Writing.{if_told, told_at, both_from, both_then, writing_here, both_at}
 use Rattle.lvm_commit.specs.Committed.{next_stamp}
 use Rattle.lvm_commit.proofs.LawsOfWritesLemmas.Holding.{with_told, told_before}
 use Rattle.lvm_change.specs.declared.turn.Transition.{Transition}
 use Rattle.lvm_extend_laws.specs.Writing.{JoinRecords, descriptor_write, status_write, IsOfJoining, AreJoinRecords, LetsWrite, StandsFirst}
-use Rattle.lvm_extend_laws.proofs.WritingLemmas.{joining_writes_keep}
+use Rattle.lvm_extend_laws.proofs.WritingLemmas.{joining_writes_keep, joining_writes_find}
 use Rattle.lvm_extend.specs.Admission.{join_records}
-use Rattle.lvm_extend.specs.Spreading.{IsUnderWay, MaySpread, SparesAs, StaysKeptFrom, Both, Last, SpreadEnds, Spreads}
+use Rattle.lvm_extend.specs.Spreading.{IsUnderWay, MaySpread, SparesAs, StaysKeptFrom, Both, Last, SpreadEnds, Spreads, FindsNoMoreFrom}
 use Rattle.lvm_extend.proofs.AdmissionLemmas.{no_later_one, no_later_two}
 
 -- a set and the disk
@@ -101,6 +102,13 @@ module _ (turn : Transition) (disk : ℕ) (there : Disks) (stamp : Stamp) (now :
         (subst (λ (x : ℕ). ChangesBy (IsOfJoining r x all homes) (image_of begun.sizes media) image) (sym under.its) by)
         (subst (λ (x : ℕ). StandsFirst r x all homes (image_of begun.sizes media) image) (sym under.its) (inl stands)) (kept (image_of begun.sizes media) (media_may begun media told))).0
 
+    finds_by : (media : Media) → begun.media ≡ Some media → (image : Image) → ChangesBy Plan_of (image_of begun.sizes media) image → StandsOn wd image disk → FindsNoMore turn.next.now (contents_of (image_of begun.sizes media)) (contents_of image)
+    finds_by media told image by stands =
+        joining_writes_find (image_of begun.sizes media) image turn.was.now turn.next.now under.row under.status all stamp homes r (told_at begun.media (λ m. IsWholeImage (image_of begun.sizes m)) media told under.sectors)
+        (told_at begun.media (λ m. LetsWrite (image_of begun.sizes m) turn.was.now turn.next.now under.row under.status all stamp homes) media told under.lets) records_are
+        (subst (λ (x : ℕ). ChangesBy (IsOfJoining r x all homes) (image_of begun.sizes media) image) (sym under.its) by)
+        (subst (λ (x : ℕ). StandsFirst r x all homes (image_of begun.sizes media) image) (sym under.its) (inl stands))
+
     module _ (w : RecordWrite) (of_plan : (d s : ℕ) (value : Sector) → IsOfRecord w d s value → Plan_of d s value) (off : w.targets disk ≡ false) where
       -- the sectors of the disk that joins stay
       sector_same : (was is : Image) → ChangesBy (IsOfRecord w) was is → (s : ℕ) → is.sector disk s ≡ was.sector disk s
@@ -124,6 +132,13 @@ module _ (turn : Transition) (disk : ℕ) (there : Disks) (stamp : Stamp) (now :
           let by : ChangesBy (IsOfRecord w) (image_of now.sizes mid.0) image = told_at now.media (λ x. (i : Image) → MayLeave d i → ChangesBy (IsOfRecord w) (image_of now.sizes x) i) mid.0 mid.1 writing image left in
           let stood : StandsOn wd (image_of now.sizes mid.0) disk = told_at now.media (λ x. StandsOn wd (image_of now.sizes x) disk) mid.0 mid.1 under.first in
           kept_by back.0 back.1 image (brought_on (image_of begun.sizes back.0) (image_of now.sizes mid.0) image back.2 by) (stands_still wd (image_of now.sizes mid.0) image by stood) facts kept
+
+      pub finds_on : (d : Device) → IsWriting (IsOfRecord w) now d → FindsNoMoreOn turn.next.now begun d
+      finds_on d writing image left = if_told begun.media (λ media. FindsNoMore turn.next.now (contents_of (image_of begun.sizes media)) (contents_of image)) (λ media told.
+          let mid = both_at begun.media now.media (λ was is. ChangesBy Plan_of (image_of begun.sizes was) (image_of now.sizes is)) media under.brought told in
+          let by : ChangesBy (IsOfRecord w) (image_of now.sizes mid.0) image = told_at now.media (λ x. (i : Image) → MayLeave d i → ChangesBy (IsOfRecord w) (image_of now.sizes x) i) mid.0 mid.1 writing image left in
+          let stood : StandsOn wd (image_of now.sizes mid.0) disk = told_at now.media (λ x. StandsOn wd (image_of now.sizes x) disk) mid.0 mid.1 under.first in
+          finds_by media told image (brought_on (image_of begun.sizes media) (image_of now.sizes mid.0) image mid.2 by) (stands_still wd (image_of now.sizes mid.0) image by stood))
 
       -- and the way goes on
       pub under_still : (new : Device) → KeepsShelf w.targets (IsOfRecord w) now new → IsUnderWay turn disk all stamp homes begun new
@@ -180,6 +195,18 @@ module _ (turn : Transition) (disk : ℕ) (there : Disks) (stamp : Stamp) (now :
     descriptor_path p q new leaves = map-path (StaysKeptFrom turn disk there stamp slots Last now)
         (λ d is all homes begun under within spares. kept_on all homes begun under w2 (λ e s value of. inr (moved kind.Descriptor r.descriptor all homes within (spares kind.Descriptor refl) e s value of)) may.apart d is.0 is.1)
         (with_told leaves.moments)
+
+    pub status_finds : (p q : ℕ) (new : Device) → DiskWritesLeave there (IsOfRecord w1) p q now new → FindsNoMoreFrom turn disk there stamp slots Both now new
+    status_finds p q new leaves all homes begun under within spares =
+        finds_on all homes begun under w1 (λ e s value of. inl (moved kind.Status r.status all homes within (spares kind.Status tt) e s value of)) may.apart new (last-path leaves.moments)
+
+    pub descriptor_finds : (p q : ℕ) (new : Device) → DiskWritesLeave there (IsOfRecord w2) p q now new → FindsNoMoreFrom turn disk there stamp slots Last now new
+    descriptor_finds p q new leaves all homes begun under within spares =
+        finds_on all homes begun under w2 (λ e s value of. inr (moved kind.Descriptor r.descriptor all homes within (spares kind.Descriptor refl) e s value of)) may.apart new (last-path leaves.moments)
+
+    pub nothing_finds : FindsNoMoreFrom turn disk there stamp slots Last now now
+    nothing_finds all homes begun under within spares =
+        finds_on all homes begun under w2 (λ e s value of. inr (moved kind.Descriptor r.descriptor all homes within (spares kind.Descriptor refl) e s value of)) may.apart now (writing_here (IsOfRecord w2) now may.ready.flights)
 
     pub nothing_path : Path_from Last now
     nothing_path = Here (λ all homes begun under within spares.
@@ -317,6 +344,12 @@ module _ (turn : Transition) (disk : ℕ) (there : Disks) (stamp : Stamp) (now :
             (λ k last. subst (λ (j : Kind). SparesAs j disk then_slots homes) (sym last) (λ e apart. each.next.other kind.Descriptor differ e ∙ spares kind.Descriptor tt e apart)))
             two.kept
 
+        rest_finds : FindsNoMoreFrom turn disk there stamp slots Both now new
+        rest_finds all homes begun under within spares = two.finds all homes begun
+            (under_still all homes begun under w1 (λ e s value of. inl (moved kind.Status r.status all homes within (spares kind.Status tt) e s value of)) may.apart m leaves.keeps)
+            (λ e is. within e (was_there e is))
+            (λ k last. subst (λ (j : Kind). SparesAs j disk then_slots homes) (sym last) (λ e apart. each.next.other kind.Descriptor differ e ∙ spares kind.Descriptor tt e apart))
+
         first_back : ComesBack (with_disk disk there) (with_disk disk mid) number now m buf
         first_back = comes number m failed buf each
 
@@ -339,4 +372,5 @@ module _ (turn : Transition) (disk : ℕ) (there : Disks) (stamp : Stamp) (now :
           }) two.keeps);
           spends = spends_then p q z now m new leaves.spends two.spends;
           kept = append-path (status_path p q m leaves) rest_path;
+          finds = rest_finds;
         }

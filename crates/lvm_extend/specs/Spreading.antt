@@ -19,6 +19,7 @@ use Rattle.lvm_rec.specs.Homes.{second_slots}
 use Rattle.lvm_write.specs.Parts.{Spends}
 use Rattle.lvm_write.specs.Written.{HaveRoom, KeepsShelf, StandsTold, IsDarkened, IsGivenUp}
 use Rattle.lvm_commit.specs.Committed.{next_stamp}
+use Rattle.lvm_commit.specs.LawsOfFinding.{FindsNoMoreOn}
 use Rattle.lvm_change.specs.declared.turn.Transition.{Transition}
 use Rattle.lvm_change.specs.declared.turn.TransitionEnd.{TransitionEnd}
 use Rattle.lvm_change.specs.declared.turn.TransitionEnd.TheVariants as turned
@@ -66,6 +67,12 @@ StaysKeptFrom turn disk there stamp slots Left now later =
     (all : Disks) (homes : Homes) (begun : Device) → IsUnderWay turn disk all stamp homes begun now → ((d : ℕ) → IsTrue (there d) → IsTrue (all d)) → ((k : Kind) → Left k → SparesAs k disk slots homes)
     → StaysKept begun later
 
+-- so nothing more is found than was at the beginning, but for the next descriptor
+abbrev pub FindsNoMoreFrom : Transition → ℕ → Disks → Stamp → Homes → (Kind → Type 0) → Device → Device → Type 0
+FindsNoMoreFrom turn disk there stamp slots Left now later =
+    (all : Disks) (homes : Homes) (begun : Device) → IsUnderWay turn disk all stamp homes begun now → ((d : ℕ) → IsTrue (there d) → IsTrue (all d)) → ((k : Kind) → Left k → SparesAs k disk slots homes)
+    → FindsNoMoreOn turn.next.now begun later
+
 -- ---- how it ends
 
 -- Done with the disk that joins and members that have votes enough by both descriptors, or off with their votes by the first that isn't met.
@@ -77,12 +84,14 @@ SpreadEnds turn disk there number patience old new (turned.WentOff have total wr
 SpreadEnds turn disk there number patience old new turned.Dark = IsDarkened number old new
 SpreadEnds turn disk there number patience old new turned.Stuck = IsGivenUp number patience old new
 
--- Whatever the answer: only the two records were brought to these members, and what was kept at the beginning is kept at each moment.
+-- Whatever the answer: only the two records were brought to these members; what was kept at the beginning is kept at each moment, and nothing more is found than the next
+-- descriptor.
 pub record Spreads (turn : Transition) (disk : ℕ) (there : Disks) (stamp : Stamp) (Left : Kind → Type 0) (homes : Homes) (number before after : ℕ) (old new : Device) (result : TransitionEnd) : Type 0 where
   pub ends : SpreadEnds turn disk there number before old new result
   pub keeps : KeepsShelf there (IsOfTransition turn there (next_stamp stamp) (next_stamp (next_stamp stamp))) old new
   pub spends : Spends before after old new
   pub kept : Path DeviceStep (StaysKeptFrom turn disk there stamp homes Left old) old new
+  pub finds : FindsNoMoreFrom turn disk there stamp homes Left old new
 
 -- both kinds are to be written, or that of descriptors
 abbrev pub Both : Kind → Type 0

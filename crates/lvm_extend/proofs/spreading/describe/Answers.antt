@@ -4,7 +4,7 @@ use Rattle.lvm_disk.specs.Device.{Device}
 use Rattle.lvm_write.proofs.PartsLemmas.Transfers.{keeps_here, spends_none}
 use Rattle.lvm_change.specs.Transition.{IsOfTransition}
 use Rattle.lvm_commit.specs.Committed.{next_stamp}
-use Rattle.lvm_extend.proofs.SpreadingLemmas.{here_still, nothing_path, voted, with_is}
+use Rattle.lvm_extend.proofs.SpreadingLemmas.{here_still, nothing_finds, nothing_path, voted, with_is}
 use Rattle.lvm_extend.proofs.spreading.describe.Goals as goal
 
 pub returns-in_default : goal.returns-in_default
@@ -18,4 +18,5 @@ returns-in_default g c =
       keeps = keeps_here there (IsOfTransition c.args.turn there (next_stamp c.args.stamp) (next_stamp (next_stamp c.args.stamp))) old;
       spends = spends_none p old;
       kept = nothing_path c.args.turn c.args.disk there c.args.stamp old c.requires.may c.args.homes.now;
+      finds = nothing_finds c.args.turn c.args.disk there c.args.stamp old c.requires.may c.args.homes.now;
     }

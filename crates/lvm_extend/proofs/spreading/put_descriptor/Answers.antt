@@ -9,7 +9,7 @@ use Rattle.lvm_write.specs.Writes.{DiskWritesLeave, EachTried}
 use Rattle.lvm_write.specs.Written.{write_of, StandsTold, written_well}
 use Rattle.lvm_commit.specs.Committed.{next_stamp}
 use Rattle.lvm_extend_laws.specs.Joining.{with_disk}
-use Rattle.lvm_extend.proofs.SpreadingLemmas.{comes, descriptor_keeps, descriptor_path, voted, with_is}
+use Rattle.lvm_extend.proofs.SpreadingLemmas.{comes, descriptor_finds, descriptor_keeps, descriptor_path, voted, with_is}
 use Rattle.lvm_extend.proofs.spreading.put_descriptor.Goals as goal
 
 pub returns-in-Ended : goal.returns-in-Ended
@@ -30,6 +30,7 @@ returns-in-Ended g c =
       keeps = descriptor_keeps c.args.turn c.args.disk there c.args.stamp old c.requires.may slots new leaves.keeps;
       spends = leaves.spends;
       kept = descriptor_path c.args.turn c.args.disk there c.args.stamp old c.requires.may slots p c.write_record.new.patience.left new leaves;
+      finds = descriptor_finds c.args.turn c.args.disk there c.args.stamp old c.requires.may slots p c.write_record.new.patience.left new leaves;
     }
 
 pub returns-in-Dark : goal.returns-in-Dark
@@ -46,6 +47,7 @@ returns-in-Dark g c =
       keeps = descriptor_keeps c.args.turn c.args.disk there c.args.stamp old c.requires.may slots new leaves.keeps;
       spends = leaves.spends;
       kept = descriptor_path c.args.turn c.args.disk there c.args.stamp old c.requires.may slots p c.write_record.new.patience.left new leaves;
+      finds = descriptor_finds c.args.turn c.args.disk there c.args.stamp old c.requires.may slots p c.write_record.new.patience.left new leaves;
     }
 
 pub returns-in-Stuck : goal.returns-in-Stuck
@@ -62,4 +64,5 @@ returns-in-Stuck g c =
       keeps = descriptor_keeps c.args.turn c.args.disk there c.args.stamp old c.requires.may slots new leaves.keeps;
       spends = leaves.spends;
       kept = descriptor_path c.args.turn c.args.disk there c.args.stamp old c.requires.may slots p c.write_record.new.patience.left new leaves;
+      finds = descriptor_finds c.args.turn c.args.disk there c.args.stamp old c.requires.may slots p c.write_record.new.patience.left new leaves;
     }

@@ -8,7 +8,7 @@ use Rattle.lvm_rec.specs.Homes.{Flips}
 use Rattle.lvm_write.specs.Writes.{DiskWritesLeave, EachTried}
 use Rattle.lvm_write.specs.Written.{write_of, StandsTold}
 use Rattle.lvm_extend.specs.Spreading.{Last, MaySpread, Spreads}
-use Rattle.lvm_extend.proofs.SpreadingLemmas.{may_describe, spread_on, status_keeps, status_path}
+use Rattle.lvm_extend.proofs.SpreadingLemmas.{may_describe, spread_on, status_finds, status_keeps, status_path}
 use Rattle.lvm_extend.proofs.spreading.spread.Goals as goal
 
 pub describe-requires : goal.describe-requires
@@ -57,6 +57,7 @@ returns-in-Dark g c =
       keeps = status_keeps c.args.turn c.args.disk there c.args.stamp old c.requires.may slots m leaves.keeps;
       spends = leaves.spends;
       kept = status_path c.args.turn c.args.disk there c.args.stamp old c.requires.may slots p q m leaves;
+      finds = status_finds c.args.turn c.args.disk there c.args.stamp old c.requires.may slots p q m leaves;
     }
 
 pub returns-in-Stuck : goal.returns-in-Stuck
@@ -73,4 +74,5 @@ returns-in-Stuck g c =
       keeps = status_keeps c.args.turn c.args.disk there c.args.stamp old c.requires.may slots m leaves.keeps;
       spends = leaves.spends;
       kept = status_path c.args.turn c.args.disk there c.args.stamp old c.requires.may slots p q m leaves;
+      finds = status_finds c.args.turn c.args.disk there c.args.stamp old c.requires.may slots p q m leaves;
     }
