@@ -60,7 +60,7 @@ is_alone disk = or_left false (same_itself disk)
 pub only_it : (disk d : ℕ) → IsTrue (alone disk d) → d ≡ disk
 only_it disk d is = eqb-true d disk (sym (or_false (d == disk)) ∙ is)
 
-not_it : (disk d : ℕ) → d ≢ disk → alone disk d ≡ false
+pub not_it : (disk d : ℕ) → d ≢ disk → alone disk d ≡ false
 not_it disk d apart = or_false (d == disk) ∙ ne_eqb d disk apart
 
 -- where it was written well
@@ -101,14 +101,14 @@ module _ (turn : Transition) (disk : ℕ) (stamp : Stamp) (homes : Homes) (old :
   abbrev Before : Type 0
   Before = IsBeforeJoining turn disk stamp homes old
 
-  status_frames : Frames kind.Status r.status
-  status_frames = record { some_epoch = may.epoch; epoch = may.bound; some_seq = λ e. absurd (zero_is e); seq = (let n = may.numbers in omega (arith, n)); content = may.records.status_fits }
+  pub status_frames_of : Frames kind.Status r.status
+  status_frames_of = record { some_epoch = may.epoch; epoch = may.bound; some_seq = λ e. absurd (zero_is e); seq = (let n = may.numbers in omega (arith, n)); content = may.records.status_fits }
     where
       zero_is : stamp.seq + 1 ≡ 0 → ⊥
       zero_is e = omega (arith, e)
 
-  descriptor_frames : Frames kind.Descriptor r.descriptor
-  descriptor_frames = record { some_epoch = may.epoch; epoch = may.bound; some_seq = λ e. absurd (zero_is e); seq = (let n = may.numbers in omega (arith, n)); content = may.records.fits }
+  pub descriptor_frames_of : Frames kind.Descriptor r.descriptor
+  descriptor_frames_of = record { some_epoch = may.epoch; epoch = may.bound; some_seq = λ e. absurd (zero_is e); seq = (let n = may.numbers in omega (arith, n)); content = may.records.fits }
     where
       zero_is : stamp.seq + 1 + 1 ≡ 0 → ⊥
       zero_is e = omega (arith, e)
@@ -116,8 +116,8 @@ module _ (turn : Transition) (disk : ℕ) (stamp : Stamp) (homes : Homes) (old :
   records_of : (status : Status) → IsRerowed turn.next.now status turn.told.now → AreJoinRecords r turn.next.now status stamp
   records_of status told = record {
     told = told;
-    status_frames = status_frames;
-    descriptor_frames = descriptor_frames;
+    status_frames = status_frames_of;
+    descriptor_frames = descriptor_frames_of;
     status_reads = ap status_of may.records.status ∙ is_read_again turn.told.now may.records.told;
     descriptor_reads = ap descriptor_of may.records.content ∙ spelled_is_read turn.next.now may.valid_next;
     status_later = no_later_one (next_stamp stamp);
@@ -252,7 +252,7 @@ module _ (turn : Transition) (disk : ℕ) (stamp : Stamp) (homes : Homes) (old :
             (mid.2.each disk (slot_start kind.Status (ws.slots disk) + part)))
           where
             status_place : (slot part : ℕ) → slot < 2 → part < record_sectors (length r.status.content) → slot_start kind.Status slot + part < 512
-            status_place slot part below lt = let fit = sectors-fit kind.Status (length r.status.content) status_frames.content in omega (arith, below, lt, fit)
+            status_place slot part below lt = let fit = sectors-fit kind.Status (length r.status.content) status_frames_of.content in omega (arith, below, lt, fit)
 
             descriptor_place : (slot part : ℕ) → 512 ≤ slot_start kind.Descriptor slot + part
             descriptor_place slot part = omega arith
