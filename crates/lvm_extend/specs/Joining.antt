@@ -63,7 +63,8 @@ IsToldOf turned.Stuck result = result ≡ ended.Stuck
 abbrev pub MakeJoinEnds : Transition → ℕ → Disks → ℕ → ℕ → Device → Device → JoinEnd → Type 0
 MakeJoinEnds turn disk there number patience old new (ended.Done written buf) =
     ComesBack (with_disk disk there) (has written) number old new buf × IsTrue (has written disk) × CanWrite turn.was.now (has written) × CanWrite turn.next.now (has written)
-MakeJoinEnds turn disk there number patience old new (ended.DiskFailed buf) = IsBack number old new buf × Rose (old.counts.faults disk) (new.counts.faults disk)
+MakeJoinEnds turn disk there number patience old new (ended.DiskFailed buf) =
+    IsBack number old new buf × Rose (old.counts.faults disk) (new.counts.faults disk) × ((d : ℕ) → d ≢ disk → new.counts.starts d ≡ old.counts.starts d)
 MakeJoinEnds turn disk there number patience old new (ended.WentOff have total written buf) =
     ComesBack (with_disk disk there) (has written) number old new buf × HasFewVotes turn.was.now turn.next.now (has written) have total
 MakeJoinEnds turn disk there number patience old new ended.Dark = IsDarkened number old new
