@@ -54,7 +54,7 @@ module _ (run : ℕ) (old new : ScriptState) (between : IsBetween old.moment old
   tried core left mid given over some drains was done = tried_change run old new between named stood answer (Ok (Some (command.Reducevg name disks))) (IsReducedBy disks) (λ k is. is) (λ tried. tried) core left mid some drains was done
 
   failed : (core : Core) (left : ℕ) (mid : State) (why : ReduceFault) (b : Bool) → ends_session why ≡ b → old.session ≡ Some core → Drains core old left mid → answer ≡ reply.Refused (reduce_refusal why) → ReducevgEnds disks (Err why) (ends_session why) left mid old new → Found
-  failed core left mid why true ends some drains says done = tried core left mid (Err why) (ends_session why) some drains (inr (subst IsBrokenOff (sym says) (reduce_broken why ends))) done
+  failed core left mid why true ends some drains says done id k it = tried core left mid (Err why) (ends_session why) some drains (inr (subst IsBrokenOff (sym says) (reduce_broken why ends))) done id k it
   failed core left mid why false ends some drains says done id k it =
       let goes : ReducevgEnds disks (Err why) false left mid old new = subst (λ (over : Bool). ReducevgEnds disks (Err why) over left mid old new) ends done in
       inl (idle_nothing run old new between named stood core left mid goes.left some drains (reduce_refused disks left mid goes.left why ends goes.gives) goes.leaves id k it)
@@ -64,5 +64,5 @@ module _ (run : ℕ) (old new : ScriptState) (between : IsBetween old.moment old
   reducevg_finds (NoMemoryForReducevg some is) id k it = inl (same_nothing old.moment.device new.moment.device (ap (λ (s : ScriptState). s.moment.device) is.1) id k it)
   reducevg_finds (BusyReducevg mine busy is) id k it = inl (same_nothing old.moment.device new.moment.device (ap (λ (s : ScriptState). s.moment.device) is.1) id k it)
   reducevg_finds (UndrainedReducevg core why some mine un) id k it = inl (undrained_nothing run old new between named stood core why answer some un id k it)
-  reducevg_finds (ReducesGroup core left mid some mine drains done says) = tried core left mid (Ok tt) false some drains (inl says) done
-  reducevg_finds (ReducevgFails core left mid why some mine drains done says) = failed core left mid why (ends_session why) refl some drains says done
+  reducevg_finds (ReducesGroup core left mid some mine drains done says) id k it = tried core left mid (Ok tt) false some drains (inl says) done id k it
+  reducevg_finds (ReducevgFails core left mid why some mine drains done says) id k it = failed core left mid why (ends_session why) refl some drains says done id k it
