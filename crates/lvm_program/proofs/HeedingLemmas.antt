@@ -1,5 +1,5 @@
 -- Runs over a shelf that heeds orders alone.
-use Rattle.std.proofs.Common.{◌≡◌, inl, inr, ◌≤◌, ℕ, Bool, true, List, [], Option, Some, None, IfSome, Result, Ok, refl, sym, ◌∙◌, ap, subst, arith}
+use Rattle.std.proofs.Common.{◌≡◌, inl, inr, ⊎_elim, ◌≤◌, ℕ, Bool, true, List, [], Option, Some, None, IfSome, Result, Ok, refl, sym, ◌∙◌, ap, subst, arith}
 use Rattle.lvm_disk.specs.Counts.{Rose, RoseBy}
 use Rattle.lvm_disk.specs.Device.{Device, Ordered, Orders}
 use Rattle.lvm_disk.specs.Paths.{DeviceStep, Path, Here, Then}
@@ -178,8 +178,8 @@ harmless_scripts_go_well log room past first lines replies last script begin alo
 
 -- nothing was heard of a transfer only where that is answered
 never_stuck : {log : Log} {room : Room} {mid last : ScriptState} {done : List (List ℕ)} {said : List Reply} {front : List ℕ} (ends : Ends log room mid last done said front) → EndsStuck ends → EndsUntroubled ends → ⊥
-never_stuck (AtLine same) stuck well = stuck
-never_stuck (InLine line answer said front rest says split it) stuck well = subst (λ (a : Reply). IsShortOfVotes (line_of line) a mid) stuck (well.0 (subst IsTroubled (sym stuck) tt))
+never_stuck {mid = mid} (AtLine same) stuck well = stuck
+never_stuck {mid = mid} (InLine line answer said front rest says split it) stuck well = subst (λ (a : Reply). IsShortOfVotes (line_of line) a mid) stuck (well.0 (subst IsTroubled (sym stuck) tt))
 
 module _ (r : Run) (ran : IsRun r) (clock : StampsAreEarlier r.named r.entry) (alone : RanAlone ran) where
   its_path : Path DeviceStep (λ d. Unit {0}) r.entry r.exit
