@@ -4,6 +4,7 @@
     moves.py cases SEED COUNT                   writes the scripts as cases of lvm_rows
     moves.py compare SEED COUNT OTHER ANSWERS   runs them by OTHER, a program with the words of lvm, and compares
                                                 what lvm_rows has printed; each that differs is printed
+    moves.py run SEED COUNT OTHER PROGRAM       the same with what PROGRAM, an lvm, answers
 
 A `wait` stands behind each `migratepv`: before each commit this program ends the posts that may end, which another one may leave for later.
 """
@@ -146,28 +147,33 @@ def answered(text):
     return found
 
 
-def compare(seed, count, other, answers):
-    mine = answered(open(answers, encoding="utf-8").read())
+def answers_of(program, script, lines):
+    run = subprocess.run([program, "sim", str(script.disks), str(script.mib)], input="\n".join(lines) + "\n", capture_output=True, text=True)
+    return run.stdout.splitlines()
+
+
+def compare(seed, count, other, mine):
+    """`mine` tells the answers to a script by its number, or None where there are none."""
 
     def one(item):
         k, (script, lines) = item
-        run = subprocess.run([other, "sim", str(script.disks), str(script.mib)], input="\n".join(lines) + "\n", capture_output=True, text=True)
-        return k, lines, run.stdout.splitlines()
+        return k, lines, mine(k, script, lines), answers_of(other, script, lines)
 
-    same = different = 0
+    same = different = moved = 0
     words = {}
-    with ThreadPoolExecutor(2) as pool:
-        for k, lines, wanted in pool.map(one, enumerate(scripts(seed, count))):
+    with ThreadPoolExecutor(4) as pool:
+        for k, lines, here, wanted in pool.map(one, enumerate(scripts(seed, count))):
+            if here is None:
+                continue
             for line in lines:
                 words[line.split()[0]] = words.get(line.split()[0], 0) + 1
-            if k not in mine:
-                continue
-            if mine[k] == wanted:
+            moved += sum(1 for it in here if it.startswith("migrated ") and it != "migrated 0")
+            if here == wanted:
                 same += 1
                 continue
             different += 1
-            print(f"--- {k}\n" + "\n".join(lines) + f"\n  here   {mine[k]}\n  there  {wanted}")
-    print(f"{same} same, {different} different")
+            print(f"--- {k}\n" + "\n".join(lines) + f"\n  here   {here}\n  there  {wanted}")
+    print(f"{same} same, {different} different; {moved} lines moved copies")
     print(", ".join(f"{n} {w}" for w, n in sorted(words.items(), key=lambda it: -it[1])))
 
 
@@ -175,6 +181,9 @@ if __name__ == "__main__":
     if len(sys.argv) == 4 and sys.argv[1] == "cases":
         cases(int(sys.argv[2]), int(sys.argv[3]))
     elif len(sys.argv) == 6 and sys.argv[1] == "compare":
-        compare(int(sys.argv[2]), int(sys.argv[3]), sys.argv[4], sys.argv[5])
+        printed = answered(open(sys.argv[5], encoding="utf-8").read())
+        compare(int(sys.argv[2]), int(sys.argv[3]), sys.argv[4], lambda k, script, lines: printed.get(k))
+    elif len(sys.argv) == 6 and sys.argv[1] == "run":
+        compare(int(sys.argv[2]), int(sys.argv[3]), sys.argv[4], lambda k, script, lines: answers_of(sys.argv[5], script, lines))
     else:
         sys.exit(__doc__)
