@@ -31,6 +31,8 @@ run() {
 
 # run_and_kill: the program does lines.txt, and is killed meanwhile; its replies so far are in replies
 run_and_kill() {
+    # Where it is killed before it has begun, no reply of the run before is left.
+    : > replies
     "$lvm" script < lines.txt > replies &
     local program=$!
     sleep "0.0$((RANDOM % 9 + 1))"
