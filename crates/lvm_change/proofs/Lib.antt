@@ -1,3 +1,4 @@
+pub mod MarkingLemmas
 pub mod DescribeLemmas
 pub mod PartingLemmas
 pub mod RefusingLemmas

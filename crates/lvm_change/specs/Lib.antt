@@ -1,3 +1,4 @@
 pub mod Parting
 pub mod Rule
+pub mod Spare
 pub mod Transition

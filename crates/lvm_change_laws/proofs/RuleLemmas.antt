@@ -50,7 +50,8 @@ use Rattle.lvm_change_votes.specs.Meeting.{disks_of}
 use Rattle.lvm_change_votes.proofs.MeetingLemmas.{same_members_meet}
 use Rattle.lvm_change_votes.proofs.ReachingLemmas.{reaches_next, all_read_off}
 use Rattle.lvm_change_laws.specs.Turning.{AreTwo, ReadsTwo}
-use Rattle.lvm_change_laws.specs.Rule.{MayChange, RuleIsChange, IsOpenTo, MayTurnTo, members_among, ChangeOpens, StatusesLeaveOpen, RerowedMayFollow, TurnWriteKeeps, TurnIsHeld, IsShownOn, TurnIsShown}
+use Rattle.lvm_change_laws.specs.Rule.{MayChange, RuleIsChange, IsOpenTo, MayTurnTo, members_among, staying, unspared, ChangeOpens, StatusesLeaveOpen, RerowedMayFollow, TurnWriteKeeps, TurnIsHeld, IsShownOn, TurnIsShown}
+use Rattle.lvm_change_laws.proofs.UnsparedLemmas.{unspared_any, unspared_found, unspared_row}
 use Rattle.lvm_change_laws.proofs.StayingLemmas.{all_stay, staying_any, staying_member, staying_row}
 use Rattle.lvm_change_laws.proofs.TwoLemmas.{valid_are_two}
 use Rattle.lvm_change_laws.proofs.TurningLemmas.{turn_keeps, reads_are_two}
@@ -62,17 +63,25 @@ pub rule_is_change : RuleIsChange
 rule_is_change group next there may = record {
   valid = may.valid;
   valid_next = may.valid_next;
-  differs = may.differs ∙ ap (λ (rows : List PvRow). record group { pvs = rows; quorum = next.quorum; even = next.even; big = next.big }) (sym (all_stay group.pvs));
+  differs = may.differs ∙ ap (λ (rows : List PvRow). record group { pvs = rows; quorum = next.quorum; even = next.even; big = next.big }) (sym same_rows);
+  members = ap unspared same_rows ∙ sym (all_stay (unspared group.pvs));
   near = same_members_meet group next (record { members = sym (ap disks_of may.differs); has = record { some = may.valid.head.a_member; apart = may.valid.members.disks_differ } });
   enough = may.enough;
   enough_too = may.enough_too;
   found = may.found;
 }
+  where
+    same_rows : next.pvs ≡ group.pvs
+    same_rows = ap (λ (g : Descriptor). g.pvs) may.differs
 
 module _ (leaves : Disks) (group next : Descriptor) (there : Disks) (may : MayChange leaves group next there) where
   -- a disk is a member by the next one just where it was and doesn't leave
   pub member_next : (d : ℕ) → is_member next d ≡ (is_member group d && not (leaves d))
-  member_next d = ap (λ (g : Descriptor). is_member g d) may.differs ∙ staying_member leaves d group.pvs
+  member_next d =
+      sym (unspared_any at_d (λ row. refl) next.pvs) ∙ ap (list_any at_d) may.members ∙ staying_member leaves d (unspared group.pvs) ∙ ap (λ (b : Bool). b && not (leaves d)) (unspared_any at_d (λ row. refl) group.pvs)
+    where
+      at_d : PvRow → Bool
+      at_d row = row.disk == d
 
   pub was_member : (d : ℕ) → IsTrue (is_member next d) → IsTrue (is_member group d)
   was_member d is = (and_parts (is_member group d) (not (leaves d)) (sym (member_next d) ∙ is)).0
@@ -85,14 +94,27 @@ module _ (leaves : Disks) (group next : Descriptor) (there : Disks) (may : MayCh
     size = sym (ap (λ (g : Descriptor). g.mib) may.differs);
     volumes = sym (ap (λ (g : Descriptor). g.lvs) may.differs);
     near = may.near;
-    partitions = λ d p q is also. ap (λ (row : PvRow). row.pps) (same_row p q (sym is ∙ staying_row leaves d group.pvs q (sym (ap (λ (g : Descriptor). member_of g d) may.differs) ∙ also)));
+    partitions = λ d p q is also.
+        let stays : row_at d (staying leaves (unspared group.pvs)) ≡ Some (unspared_row q) = ap (row_at d) (sym may.members) ∙ unspared_found d next.pvs q also in
+        ap (λ (row : PvRow). row.pps) (same_row (unspared_row p) (unspared_row q) (sym (unspared_found d group.pvs p is) ∙ staying_row leaves d (unspared group.pvs) (unspared_row q) stays));
   })
     where
+      row_at : ℕ → List PvRow → Option PvRow
+      row_at d rows = find (λ (row : PvRow). row.disk == d) rows
+
       same_row : (p q : PvRow) → Some p ≡ Some q → p ≡ q
       same_row p q e = cc
 
   room_next : (c : Contents) (d : ℕ) → has_room c d next ≡ (has_room c d group && not (leaves d))
-  room_next c d = ap (has_room c d) may.differs ∙ staying_any leaves (λ (row : PvRow). nat_le (sectors_needed group.mib row.pps) (c.size d)) d group.pvs
+  room_next c d =
+      ap (has_room c d) may.differs ∙ sym (unspared_any fits (λ row. refl) next.pvs) ∙ ap (list_any fits) may.members ∙ staying_any leaves large d (unspared group.pvs)
+      ∙ ap (λ (b : Bool). b && not (leaves d)) (unspared_any fits (λ row. refl) group.pvs)
+    where
+      large : PvRow → Bool
+      large row = nat_le (sectors_needed group.mib row.pps) (c.size d)
+
+      fits : PvRow → Bool
+      fits row = row.disk == d && large row
 
   has_room_still : (c : Contents) (d : ℕ) → IsTrue (has_room c d group) → IsTrue (is_member next d) → IsTrue (has_room c d next)
   has_room_still c d room member = room_next c d ∙ both (has_room c d group) (not (leaves d)) room (and_parts (is_member group d) (not (leaves d)) (sym (member_next d) ∙ member)).1

@@ -1,5 +1,5 @@
--- A group of which the rule of votes or the size changes, or that some members leave: when it may, and what the disks of its session hold meanwhile.
-use Rattle.std.specs.Prelude.{◌≡◌, ◌⊎◌, ℕ, ◌&&◌, not, if◌then◌else◌, List, filter, true, false, Ok, Some, IsTrue}
+-- A group of which the rule of votes, the size or the spares change, or that some members leave: when it may, and what the disks of its session hold meanwhile.
+use Rattle.std.specs.Prelude.{◌≡◌, ◌⊎◌, ℕ, ◌&&◌, not, if◌then◌else◌, List, filter, map, true, false, Ok, Some, IsTrue}
 use Rattle.lvm_num.specs.declared.record.Kind.TheVariants as kind
 use Rattle.lvm_num.specs.declared.record.Stamp.{Stamp}
 use Rattle.lvm_num.specs.declared.record.Framed.{Framed}
@@ -49,12 +49,17 @@ pub record MayChangeRule (group next : Descriptor) (there : Disks) : Type 0 wher
 abbrev pub staying : Disks → List PvRow → List PvRow
 staying leaves rows = filter (λ (row : PvRow). not (leaves row.disk)) rows
 
--- Members on these disks leave a group, and its rule of votes or its size may change with it: both descriptors are valid and neighbours, which else are alike; the members
--- that aren't missing have votes enough to write by both; and none of the next one is missing where quorum checking is switched off.
+-- the rows of members, none of which is a spare
+abbrev pub unspared : List PvRow → List PvRow
+unspared rows = map (λ (row : PvRow). record row { spare = false }) rows
+
+-- Members on these disks leave a group; its rule of votes, its size and which of its members are spares may change with it. Both descriptors are valid and neighbours, which
+-- else are alike; the members that aren't missing have votes enough to write by both; and none of the next one is missing where quorum checking is switched off.
 pub record MayChange (leaves : Disks) (group next : Descriptor) (there : Disks) : Type 0 where
   pub valid : IsValid group
   pub valid_next : IsValid next
-  pub differs : next ≡ record group { pvs = staying leaves group.pvs; quorum = next.quorum; even = next.even; big = next.big }
+  pub differs : next ≡ record group { pvs = next.pvs; quorum = next.quorum; even = next.even; big = next.big }
+  pub members : unspared next.pvs ≡ staying leaves (unspared group.pvs)
   pub near : AreNeighbours group next
   pub enough : CanWrite group there
   pub enough_too : CanWrite next there

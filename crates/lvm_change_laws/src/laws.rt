@@ -1,6 +1,7 @@
 //! Laws of a change of members. Each call does nothing: its contract is the law.
 ghost use Rattle.lvm_change_laws.specs.Turning.{ValidAreTwo, TransitionKeeps, StateTurnKeeps, TurnIsDone, ReadsAreTwo};
 ghost use Rattle.lvm_change_laws.specs.Rule.{RuleIsChange, ChangeOpens, StatusesLeaveOpen, RerowedMayFollow, TurnWriteKeeps, TurnIsHeld, TurnIsShown};
+ghost use Rattle.lvm_change_laws.specs.Spares.{SparesAreChange};
 ghost use Rattle.lvm_change_laws.specs.Committed.{CommittedIsRead, CommittedServes, TurnIsCommitted, ErasingKeeps};
 ghost use Rattle.lvm_change_laws.specs.Examples.{ThirdsMayBeErased};
 
@@ -26,10 +27,11 @@ pub fn erasing_keeps()
     ensures { ErasingKeeps }
 {}
 
-/// A rule of votes may change, or the size of a group, or members may leave it: while the next descriptor is written what was kept is kept, and once it stands it
+/// A rule of votes may change, or the size or the spares of a group, or members may leave it: while the next descriptor is written what was kept is kept, and once it stands it
 /// is the committed one.
 pub fn groups_may_change()
     ensures rule { RuleIsChange }
+    ensures spares { SparesAreChange }
     ensures opens { ChangeOpens }
     ensures stays { StatusesLeaveOpen }
     ensures follows { RerowedMayFollow }

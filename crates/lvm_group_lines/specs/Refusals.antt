@@ -37,5 +37,7 @@ shown refusal.Memory = record { number = 29; carried = carried.Nothing }
 shown refusal.Busy = record { number = 30; carried = carried.Nothing }
 shown (refusal.Missing disk) = record { number = 31; carried = carried.Disk disk }
 shown (refusal.TableFull held) = record { number = 32; carried = carried.Number held }
+shown (refusal.DiskInUse disk) = record { number = 33; carried = carried.Disk disk }
+shown refusal.LastDisk = record { number = 34; carried = carried.Nothing }
 shown (refusal.Strict lp) = record { number = 35; carried = carried.Lp lp }
 shown (refusal.StaleCopy lp) = record { number = 36; carried = carried.Lp lp }

@@ -77,6 +77,10 @@ pub enum Refusal {
     Missing { disk: u16 },
     /// 32: so many requests are open, and there isn't room for those of the line.
     TableFull { held: u32 },
+    /// 33: a volume has a partition on the disk.
+    DiskInUse { disk: u16 },
+    /// 34: all members are named that there are.
+    LastDisk,
     /// 35: another copy of this logical partition, counted from 0, stands on the disk to which one would move.
     Strict { lp: u32 },
     /// 36: of this logical partition, counted from 0, a copy that would become one of another volume can't be used.
@@ -168,6 +172,8 @@ fn shown(refusal: &Refusal) -> lvm_show::Refusal
         Refusal::Busy => (30, Carried::Nothing),
         Refusal::Missing { disk } => (31, Carried::Disk(*disk)),
         Refusal::TableFull { held } => (32, Carried::Number(u64::from(*held))),
+        Refusal::DiskInUse { disk } => (33, Carried::Disk(*disk)),
+        Refusal::LastDisk => (34, Carried::Nothing),
         Refusal::Strict { lp } => (35, Carried::Lp(*lp)),
         Refusal::StaleCopy { lp } => (36, Carried::Lp(*lp)),
     };

@@ -2,6 +2,7 @@ pub mod Knowing
 pub mod Turns
 pub mod Faulting
 pub mod Changing
+pub mod Reducing
 pub mod Causing
 pub mod Votes
 pub mod Requesting

@@ -1,5 +1,5 @@
 -- What has happened where a line is refused for it.
-use Rattle.std.specs.Prelude.{◌≡◌, ◌⊎◌, ◌≤◌, ◌*◌, ℕ, false, List, Option, Some, None, Result, Ok, IsTrue}
+use Rattle.std.specs.Prelude.{◌≡◌, ◌⊎◌, ◌≤◌, ◌*◌, ℕ, false, List, Option, Some, None, Result, Ok, IsTrue, IsFalse}
 use Rattle.std.specs.List.{list_any}
 use Rattle.lvm_disk.specs.Counts.{Counts, Rose, RoseBy}
 use Rattle.lvm_parse.specs.declared.command.Command.{Command}
@@ -12,9 +12,13 @@ use Rattle.lvm_core.specs.declared.parts.Room.{Room}
 use Rattle.lvm_core.specs.Looking.{IsNumberOf}
 use Rattle.lvm_session.specs.Causes.{AnyFailedSince, was_usable}
 use Rattle.lvm_session.specs.Judging.{copies_in, is_missing}
-use Rattle.lvm_session.specs.State.{Core, State, state}
+use Rattle.lvm_session.specs.State.{Core, State, is_there, state}
+use Rattle.lvm_member_lines.specs.passed.MemberPlan.{IsReducedBy}
 use Rattle.lvm_volume_lines.specs.passed.KeepsEvents.{LostForFaults}
+use Rattle.lvm_num.specs.declared.descriptor.Descriptor.{Descriptor}
 use Rattle.lvm_num.specs.Descriptor.{is_member}
+use Rattle.lvm_num.specs.Disks.{Disks}
+use Rattle.lvm_num.specs.Votes.{is_enough_to_write, total_votes, votes_in}
 use Rattle.lvm_disk.specs.Device.{Device}
 use Rattle.lvm_volume_lines.specs.passed.Varyon.{IsRecovered}
 use Rattle.lvm_volume_lines.specs.passed.Quiesce.{Quiesces}
@@ -71,6 +75,23 @@ pub record HasFailedInSession (old new : ScriptState) : Type 0 where
 abbrev pub WereLost : Refusal → ScriptState → ScriptState → Type 0
 WereLost why old new = HasLostMember old new.moment.device.counts ⊎ (WasUndrained why old new × HasFailedInSession old new)
 
+-- The votes of members that weren't missing before the line are too few to write by a descriptor on the way to the group without these disks; nothing has failed for that.
+pub record LacksVotes (disks : List ℕ) (have total : ℕ) (old : ScriptState) : Type 0 where
+  pub core : Core
+  pub on : old.session ≡ Some core
+  pub next : Descriptor
+  pub way : IsReducedBy disks core.descriptor next
+  pub there : Disks
+  pub fewer : (d : ℕ) → IsTrue (there d) → IsTrue (is_there core d)
+  pub have_is : have ≡ votes_in next there
+  pub total_is : total ≡ total_votes next
+  pub few : IsFalse (is_enough_to_write next have)
+
+-- so it may be of a `reducevg`, which goes by such descriptors, and of no other line
+abbrev pub LacksOnTheWay : Result (Option Command) Misfit → ℕ → ℕ → ScriptState → Type 0
+LacksOnTheWay (Ok (Some (command.Reducevg name disks))) have total old = LacksVotes disks have total old
+LacksOnTheWay other have total old = ⊥
+
 -- a transfer has failed in the line; of a disk that isn't on the shelf, which a session can't count, since the session began that was on
 pub record HasFailedAsCounted (old new : ScriptState) : Type 0 where
   pub core : Core
@@ -78,12 +99,12 @@ pub record HasFailedAsCounted (old new : ScriptState) : Type 0 where
   pub failed : AnyFails (state old.moment.device core) (state new.moment.device core)
 
 -- Transfers of the line's disk have failed; the votes that are left are at most half, and a transfer of a member has failed, or, where the turns before the command
--- ended for that, they were lost before, or some transfer has failed; the power was cut; the shelf waited a million times; transfers of the disk that is named have
+-- ended for that, they were lost before, or some transfer has failed, or a `reducevg` lacks votes on its way; the power was cut; the shelf waited a million times; transfers of the disk that is named have
 -- failed; or the clock's moment isn't later than the one that is told. For the other refusals nothing has to have happened.
 abbrev pub CauseOf : Result (Option Command) Misfit → Refusal → ScriptState → ScriptState → Type 0
 CauseOf read refusal.Lost old new = RoseOn (disk_of read) old.moment.device.counts.faults new.moment.device.counts.faults
 CauseOf read refusal.ReadFailed old new = RoseOn (disk_of read) old.moment.device.counts.faults new.moment.device.counts.faults
-CauseOf read (refusal.WentOff have total) old new = (2 * have ≤ total) × WereLost (refusal.WentOff have total) old new
+CauseOf read (refusal.WentOff have total) old new = (2 * have ≤ total) × (WereLost (refusal.WentOff have total) old new ⊎ LacksOnTheWay read have total old)
 CauseOf read refusal.Dark old new = Rose old.moment.device.counts.cuts new.moment.device.counts.cuts
 CauseOf read refusal.Stuck old new = RoseBy patience_of_line old.moment.device.counts.waits new.moment.device.counts.waits
 CauseOf read (refusal.DiskFailed disk) old new = TransferHasFailed read disk old.moment.device.counts new.moment.device.counts
@@ -151,6 +172,7 @@ pub record WritesNoMore (old new : ScriptState) : Type 0 where
 abbrev pub WritesNothing : Result (Option Command) Misfit → ScriptState → ScriptState → Type 0
 WritesNothing (Ok (Some (command.ChvgQuorum on name))) old new = WritesNoMore old new
 WritesNothing (Ok (Some (command.ChvgBig name))) old new = WritesNoMore old new
+WritesNothing (Ok (Some (command.Reducevg name disks))) old new = WritesNoMore old new
 WritesNothing read old new = new.moment.device.wrote ≡ old.moment.device.wrote
 
 -- So it is where the quorum is lacking.

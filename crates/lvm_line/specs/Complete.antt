@@ -1,5 +1,5 @@
 -- What is left to refuse a line where nothing goes wrong.
-use Rattle.std.specs.Prelude.{◌≡◌, ◌≤◌, ◌*◌, ℕ, true, List, Option, Some, Result, Ok, IfSome}
+use Rattle.std.specs.Prelude.{◌≡◌, ◌⊎◌, ◌≤◌, ◌*◌, ℕ, true, List, Option, Some, Result, Ok, IfSome}
 use Rattle.lvm_disk.specs.Counts.{Counts, Rose, RoseBy}
 use Rattle.lvm_vol.specs.Log.{Log}
 use Rattle.lvm_parse.specs.declared.command.Command.{Command}
@@ -13,6 +13,7 @@ use Rattle.lvm_volume_lines.specs.passed.Resync.{AnyFails}
 use Rattle.lvm_volume_lines.specs.passed.GroupLines.{Refusal, ScriptState, patience_of_line}
 use Rattle.lvm_volume_lines.specs.passed.RefusalVariants as refusal
 use Rattle.lvm_volume_lines.specs.passed.ReplyVariants as reply
+use Rattle.lvm_line.specs.Causes.{LacksOnTheWay}
 use Rattle.lvm_line.specs.Lines.{IsLine}
 
 -- no transfer has failed, the power wasn't cut, and it didn't wait a million times
@@ -42,21 +43,21 @@ pub record HasLostVotes (s : ScriptState) : Type 0 where
   pub lost : is_lost core ≡ true
 
 -- A refusal by what is asked for, by the records and the session that are there, or for want of memory, and for nothing that a shelf did in the line; so it counts
--- here that the votes were lost before, those that are left being at most half.
-abbrev pub IsOwn : ScriptState → Refusal → Type 0
-IsOwn old refusal.Dark = ⊥
-IsOwn old refusal.Stuck = ⊥
-IsOwn old refusal.Lost = ⊥
-IsOwn old refusal.ReadFailed = ⊥
-IsOwn old (refusal.DiskFailed disk) = ⊥
-IsOwn old (refusal.SyncFailed disk) = ⊥
-IsOwn old (refusal.WentOff have total) = (2 * have ≤ total) × HasLostVotes old
-IsOwn old other = Unit {0}
+-- here that the votes were lost before, those that are left being at most half, and that a `reducevg` lacks votes on its way.
+abbrev pub IsOwn : Result (Option Command) Misfit → ScriptState → Refusal → Type 0
+IsOwn read old refusal.Dark = ⊥
+IsOwn read old refusal.Stuck = ⊥
+IsOwn read old refusal.Lost = ⊥
+IsOwn read old refusal.ReadFailed = ⊥
+IsOwn read old (refusal.DiskFailed disk) = ⊥
+IsOwn read old (refusal.SyncFailed disk) = ⊥
+IsOwn read old (refusal.WentOff have total) = (2 * have ≤ total) × (HasLostVotes old ⊎ LacksOnTheWay read have total old)
+IsOwn read old other = Unit {0}
 
 -- Each line in which nothing failed is refused so alone, if it is.
 abbrev pub CompleteLaw : Type 0
 CompleteLaw = (log : Log) (room : Room) (line : List ℕ) (why : Refusal) (old new : ScriptState) → IsLine log room line (reply.Refused why) old new
-    → NothingFailed (line_of line) old new → IsOwn old why
+    → NothingFailed (line_of line) old new → IsOwn (line_of line) old why
 
 -- A refusal by what is asked for, by the records and the session that are there, or for want of memory: for nothing that a shelf did.
 abbrev pub IsByRule : Refusal → Type 0
@@ -69,10 +70,10 @@ IsByRule (refusal.SyncFailed disk) = ⊥
 IsByRule (refusal.WentOff have total) = ⊥
 IsByRule other = Unit {0}
 
--- Where the votes weren't lost before it either, it is refused so alone; so a `wr` or a `rd` is, whose requests are all done or got if it isn't.
+-- Where the votes weren't lost before it either, and it lacks none on its way, it is refused so alone; so a `wr` or a `rd` is, whose requests are all done or got if it isn't.
 abbrev pub RuleLaw : Type 0
 RuleLaw = (log : Log) (room : Room) (line : List ℕ) (why : Refusal) (old new : ScriptState) → IsLine log room line (reply.Refused why) old new
-    → NothingFailed (line_of line) old new → (HasLostVotes old → ⊥) → IsByRule why
+    → NothingFailed (line_of line) old new → (HasLostVotes old → ⊥) → ((have total : ℕ) → LacksOnTheWay (line_of line) have total old → ⊥) → IsByRule why
 
 -- There is a line that is refused in which nothing failed.
 abbrev pub NothingMayFail : Type 0

@@ -17,6 +17,7 @@ use Rattle.lvm_volume_lines.specs.passed.RangeLinesWaiting.{WaitDoes}
 use Rattle.lvm_volume_lines.specs.Changing.{ChvgBigDoes, ChvgQuorumDoes}
 use Rattle.lvm_volume_lines.specs.Closing.{VaryoffDoes}
 use Rattle.lvm_volume_lines.specs.Copies.{MklvcopyDoes, RmlvcopyDoes}
+use Rattle.lvm_member_lines.specs.Reducing.{ReducevgDoes}
 use Rattle.lvm_volume_lines.specs.Splitting.{SplitlvcopyDoes}
 use Rattle.lvm_volume_lines.specs.Resyncing.{SyncGroupDoes, SyncVolumeDoes}
 use Rattle.lvm_volume_lines.specs.Volumes.{MklvDoes, RmlvDoes, wanted}
@@ -36,6 +37,7 @@ CommandDoes log room (command.Varyoff name) old new answer = VaryoffDoes name ol
 CommandDoes log room (command.Lsvg volumes name) old new answer = IsListed old new (GroupShows volumes name old.session answer)
 CommandDoes log room (command.ChvgQuorum on name) old new answer = ChvgQuorumDoes on name old new answer
 CommandDoes log room (command.ChvgBig name) old new answer = ChvgBigDoes name old new answer
+CommandDoes log room (command.Reducevg name disks) old new answer = ReducevgDoes name disks old new answer
 CommandDoes log room (command.Mklv name copies mode policy group lps) old new answer = MklvDoes (wanted name copies mode policy lps) group old new answer
 CommandDoes log room (command.Rmlv name) old new answer = RmlvDoes name old new answer
 CommandDoes log room (command.Mklvcopy name copies) old new answer = MklvcopyDoes name copies old new answer
@@ -68,6 +70,7 @@ abbrev pub role_of : Result (Option Command) Misfit → Role
 role_of (Ok (Some (command.Varyoff name))) = OfGroup
 role_of (Ok (Some (command.ChvgQuorum on name))) = OfGroup
 role_of (Ok (Some (command.ChvgBig name))) = OfGroup
+role_of (Ok (Some (command.Reducevg name disks))) = OfGroup
 role_of (Ok (Some (command.Mklv name copies mode policy group lps))) = OfGroup
 role_of (Ok (Some (command.Rmlv name))) = OfGroup
 role_of (Ok (Some (command.Mklvcopy name copies))) = OfGroup

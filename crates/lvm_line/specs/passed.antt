@@ -2,6 +2,7 @@ pub mod Group
 pub mod GroupLines
 pub mod HolderVariants
 pub mod KeepsEvents
+pub mod MemberLines
 pub mod Members
 pub mod MoveLines
 pub mod Quiesce
@@ -9,6 +10,7 @@ pub mod QuiescedVariants
 pub mod RangeLines
 pub mod RangeLinesWaiting
 pub mod Ranges
+pub mod ReduceFaultVariants
 pub mod RefusalVariants
 pub mod ReplyVariants
 pub mod Resync

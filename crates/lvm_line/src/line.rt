@@ -10,6 +10,7 @@ ghost use Rattle.lvm_volume_lines.specs.passed.GroupLines.{IsBetweenStage, IsFit
 use lvm_core::Room;
 use lvm_disk::{Arrange, Shelf};
 use lvm_io::Clock;
+use lvm_member_lines::do_reducevg;
 use lvm_move_lines::do_migratepv;
 use lvm_parse::{Command, ParseFault, parse};
 use lvm_volume_lines::below::disk_lines::{do_arrange, do_cut, do_read, do_write};
@@ -62,6 +63,7 @@ fn do_command<S: Shelf, C: Clock>(
         }
         Command::ChvgQuorum { on, name } => do_chvg_quorum(alloc, stage, on, name),
         Command::ChvgBig { name } => do_chvg_big(alloc, stage, name),
+        Command::Reducevg { name, disks } => do_reducevg(alloc, stage, name, disks.as_slice()),
         Command::Mklv {
             name,
             copies,
@@ -151,17 +153,16 @@ fn do_command<S: Shelf, C: Clock>(
     }
 }
 
-// Refuses a line for which no memory was found. Of the lines of the language a `mkvg` alone wants memory, and a group
-// that is on is named first.
-fn refuse_unread<S: Shelf>(stage: Stage<S>) -> Answered<S>
+// Refuses a line for whose disks no memory was found: by the one where no group is on, and by the other where one is.
+fn refuse_unread<S: Shelf>(stage: Stage<S>, off: Refusal, on: Refusal) -> Answered<S>
     ensures stage { result.stage ≡ stage }
-    ensures on { IsSome (session_in stage) → result.reply ≡ Reply.Refused Refusal.GroupOn }
-    ensures off { session_in stage ≡ None → result.reply ≡ Reply.Refused Refusal.Memory }
+    ensures on { IsSome (session_in stage) → result.reply ≡ Reply.Refused on }
+    ensures off { session_in stage ≡ None → result.reply ≡ Reply.Refused off }
 {
     if stage.is_off() {
-        stage.refused(Refusal::Memory)
+        stage.refused(off)
     } else {
-        stage.refused(Refusal::GroupOn)
+        stage.refused(on)
     }
 }
 
@@ -237,7 +238,8 @@ pub fn answer_line<S: Shelf>(alloc: Global, stage: &mut Stage<S>, line: &[u8]) -
         Err(ParseFault::BadLine { column }) => {
             InPlace::Done(Reply::Refused(Refusal::BadLine { column }))
         }
-        Err(ParseFault::Memory) => InPlace::Left,
+        Err(ParseFault::MkvgMemory) => InPlace::Left,
+        Err(ParseFault::ReducevgMemory) => InPlace::Left,
     }
 }
 
@@ -262,9 +264,12 @@ pub fn do_line<S: Shelf, C: Clock>(
         Ok(None) => stage.answered(Reply::Silent),
         Ok(Some(command)) => do_command(alloc, stage, clock, room, command),
         Err(ParseFault::BadLine { column }) => stage.refused(Refusal::BadLine { column }),
-        Err(ParseFault::Memory) => {
+        Err(ParseFault::MkvgMemory) => {
             let _ = clock.now();
-            refuse_unread(stage)
+            refuse_unread(stage, Refusal::Memory, Refusal::GroupOn)
+        }
+        Err(ParseFault::ReducevgMemory) => {
+            refuse_unread(stage, Refusal::NoGroup, Refusal::Memory)
         }
     }
 }

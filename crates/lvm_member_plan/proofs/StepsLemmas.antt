@@ -30,7 +30,7 @@ none_at t (x ∷ xs) none (suc k) e few = none_at t xs (second_fails (t x) (list
 abbrev Apart : ℕ → Pp → Type 0
 Apart x p = (p.disk == x) ≡ false
 
-unused_all : (x : ℕ) (rows : List LvRow) → list_any (λ (row : LvRow). list_any (λ (pp : Pp). pp.disk == x) row.map) rows ≡ false → All (Apart x) (partitions_in rows)
+pub unused_all : (x : ℕ) (rows : List LvRow) → list_any (λ (row : LvRow). list_any (λ (pp : Pp). pp.disk == x) row.map) rows ≡ false → All (Apart x) (partitions_in rows)
 unused_all x [] none = λ k e few. absurd (omega (arith, few))
 unused_all x (row ∷ rows) none = All-append (Apart x) row.map (partitions_in rows)
     (none_at (λ (pp : Pp). pp.disk == x) row.map (first_fails (list_any (λ (pp : Pp). pp.disk == x) row.map) (list_any (λ (r : LvRow). list_any (λ (pp : Pp). pp.disk == x) r.map) rows) none))
@@ -79,6 +79,7 @@ from_three d disk valid may three = record {
   out = leaves_by d disk valid may true (λ is. three) (λ is. refl) (λ is. absurd (omega (arith, three, is)));
   after = even_step false (without_members (disk ∷ []) true d) (gone_valid d disk valid may true (λ is. three)) (λ is. absurd (false≢true is));
   last = refl;
+  few = inl refl;
 }
 
 pub first_of_two : (d : Descriptor) (disk : ℕ) → IsValid d → MayDepart d disk → length d.pvs ≡ 2 → AreStepsOut d disk (record { before = Some (with_even true d); out = reduced (disk ∷ []) d; after = None })
@@ -87,6 +88,7 @@ first_of_two d disk valid may two = record {
   out = leaves_by (with_even true d) disk step.valid_next (record { member = may.member; other = may.other; stays = may.stays; apart = may.apart; unused = may.unused }) false (λ is. absurd (false≢true is)) (λ is. absurd (omega (arith, two, is))) (λ is. inl refl);
   after = tt;
   last = refl;
+  few = inr refl;
 }
   where
     step : IsStep [] d (with_even true d)
@@ -98,4 +100,5 @@ at_once d disk valid may three two = record {
   out = leaves_by d disk valid may false (λ is. absurd (false≢true is)) (λ is. absurd (three is)) two;
   after = tt;
   last = refl;
+  few = inl refl;
 }

@@ -1,5 +1,5 @@
 -- The descriptors of a group on the way to one with fewer members.
-use Rattle.std.specs.Prelude.{◌≡◌, ℕ, Bool, true, false, not, ◌==◌, List, [], ◌∷◌, Option, IsTrue}
+use Rattle.std.specs.Prelude.{◌≡◌, ◌⊎◌, ℕ, Bool, true, false, not, ◌==◌, List, [], ◌∷◌, Option, IsTrue}
 use Rattle.std.specs.List.{list_any, list_all, find}
 use Rattle.lvm_num.specs.declared.place.Pp.{Pp}
 use Rattle.lvm_num.specs.declared.descriptor.PvRow.{PvRow}
@@ -29,6 +29,10 @@ pub record IsReducedBy (disks : List ℕ) (d k : Descriptor) : Type 0 where
   pub among : (x : ℕ) → IsTrue (gone x) → IsTrue (is_in disks x)
   pub is : k ≡ record d { pvs = staying gone d.pvs; even = k.even }
   pub valid : IsValid k
+
+-- it is the group's, or one on the way
+abbrev pub IsOnTheWay : List ℕ → Descriptor → Descriptor → Type 0
+IsOnTheWay disks d k = (k ≡ d) ⊎ IsReducedBy disks d k
 
 -- ---- what stands against it
 

@@ -1,5 +1,5 @@
 -- The steps by which one member leaves its group.
-use Rattle.std.specs.Prelude.{◌≡◌, ℕ, true, false, List, [], ◌∷◌, IfSome, IsTrue, unwrap_or}
+use Rattle.std.specs.Prelude.{◌≡◌, ◌⊎◌, ℕ, true, false, List, [], ◌∷◌, None, IfSome, IsTrue, unwrap_or}
 use Rattle.lvm_num.specs.declared.descriptor.Descriptor.{Descriptor}
 use Rattle.lvm_num.specs.Descriptor.{IsValid, is_member}
 use Rattle.lvm_change_votes.specs.Meeting.{AreNeighbours}
@@ -21,9 +21,16 @@ pub record MayDepart (d : Descriptor) (disk : ℕ) : Type 0 where
   pub apart : other ≡ disk → ⊥
   pub unused : is_used d disk ≡ false
 
--- So it leaves by one step, before which its group may become even, and behind which it is so no more.
+-- members may leave so one after the other
+abbrev pub MayDepartAll : Descriptor → List ℕ → Type 0
+MayDepartAll d [] = Unit {0}
+MayDepartAll d (x ∷ xs) = IsValid d × MayDepart d x × MayDepartAll (reduced (x ∷ []) d) xs
+
+-- A member leaves by one step, before which its group may become even, and behind which it is so no more.
 pub record AreStepsOut (d : Descriptor) (disk : ℕ) (s : StepsOut) : Type 0 where
   pub before : IfSome s.before (IsStep [] d)
   pub out : IsStep (disk ∷ []) (unwrap_or s.before d) s.out
   pub after : IfSome s.after (IsStep [] s.out)
   pub last : unwrap_or s.after s.out ≡ reduced (disk ∷ []) d
+  -- two steps at most
+  pub few : (s.before ≡ None) ⊎ (s.after ≡ None)

@@ -1,5 +1,5 @@
--- The disks go on holding what a session says once its rule of votes or its size has changed, and each logical partition keeps a fresh copy.
-use Rattle.std.proofs.Common.{◌≡◌, inl, inr, ⊎_elim, ℕ, List, [], None, refl, sym, ◌∙◌, ap, subst}
+-- The disks go on holding what a session says once its rule of votes, its size or its spares have changed, and each logical partition keeps a fresh copy.
+use Rattle.std.proofs.Common.{◌≡◌, inl, inr, ⊎_elim, ℕ, Bool, true, false, ◌&&◌, List, [], None, refl, sym, ◌∙◌, ap, subst}
 use Rattle.std.proofs.lemmas.Bool.{false≢true}
 use Rattle.lvm_num.specs.Buffer.{Sector}
 use Rattle.lvm_num.specs.declared.descriptor.LvRow.{LvRow}
@@ -14,13 +14,14 @@ use Rattle.lvm_commit.proofs.SettlingLemmas.Chaining.{keeps_wider}
 use Rattle.lvm_session.specs.State.{Core, State, is_there}
 use Rattle.lvm_core.specs.Committing.{HasStated}
 use Rattle.lvm_core.specs.Leaves.{IsOfCommand, NoPartition, MayBeFound}
-use Rattle.lvm_change_laws.specs.Rule.{MayChangeRule}
+use Rattle.lvm_change_laws.specs.Rule.{MayChange, no_member}
+use Rattle.lvm_change_laws.proofs.RuleLemmas.{member_next}
 use Rattle.lvm_turnover.specs.Changing.{IsNext, IsOfChange, ChangeLeaves}
 use Rattle.lvm_volumes.specs.Endings.{StillHeld, KeepsFresh}
 use Rattle.lvm_volumes.proofs.EndingsLemmas.Fresh.{HasOnePlaceEach, no_copy, volume_stays}
 use Rattle.lvm_volumes.proofs.EndingsLemmas.Notes.{command_spares, still_missing, notes_stay}
 
-module _ (next : Descriptor) (p q : ℕ) (old new : State) (rule : MayChangeRule old.core.descriptor next (is_there old.core)) (left : MarksLeft next old.core.status new.core.status) (leaves : ChangeLeaves (IsNext next) [] [] p q old new) (done : HasStated next old new) where
+module _ (next : Descriptor) (p q : ℕ) (old new : State) (may : MayChange no_member old.core.descriptor next (is_there old.core)) (left : MarksLeft next old.core.status new.core.status) (leaves : ChangeLeaves (IsNext next) [] [] p q old new) (done : HasStated next old new) where
   abbrev was : Descriptor
   was = old.core.descriptor
 
@@ -28,16 +29,16 @@ module _ (next : Descriptor) (p q : ℕ) (old new : State) (rule : MayChangeRule
   now = ap (λ (k : Core). k.descriptor) done.is
 
   same_id : next.id ≡ was.id
-  same_id = ap (λ (g : Descriptor). g.id) rule.differs
+  same_id = ap (λ (g : Descriptor). g.id) may.differs
 
   same_volumes : next.lvs ≡ was.lvs
-  same_volumes = ap (λ (g : Descriptor). g.lvs) rule.differs
+  same_volumes = ap (λ (g : Descriptor). g.lvs) may.differs
 
   volume_same : (lv : ℕ) → volume_of next lv ≡ volume_of was lv
-  volume_same lv = ap (λ (g : Descriptor). volume_of g lv) rule.differs
+  volume_same lv = ap (λ (g : Descriptor). volume_of g lv) may.differs
 
   places : HasOnePlaceEach next
-  places row other lp at pp one two here there = one_place next row other lp at pp rule.valid_next one two here there
+  places row other lp at pp one two here there = one_place next row other lp at pp may.valid_next one two here there
 
   pub rule_fresh : KeepsFresh old new
   rule_fresh lv lp pp one how = ⊎_elim
@@ -54,7 +55,11 @@ module _ (next : Descriptor) (p q : ℕ) (old new : State) (rule : MayChangeRule
       as_command d s value (inr (inr it)) = absurd (false≢true it.0)
 
   members : (d : ℕ) → is_member new.core.descriptor d ≡ is_member was d
-  members d = ap (λ (g : Descriptor). is_member g d) now ∙ ap (λ (g : Descriptor). is_member g d) rule.differs
+  members d = ap (λ (g : Descriptor). is_member g d) now ∙ member_next no_member was next (is_there old.core) may d ∙ stays (is_member was d)
+    where
+      stays : (b : Bool) → (b && true) ≡ b
+      stays true = refl
+      stays false = refl
 
   none_next : NoneIsLeft was old.core.status → NoneIsLeft next old.core.status
   none_next none pp is = none pp (subst (λ (rows : List LvRow). IsLeftIn (there old.core.status) old.core.status.wanted rows pp) same_volumes is)

@@ -1,2 +1,4 @@
 pub mod passed
 pub mod Commands
+pub mod Spares
+pub mod Worked

@@ -8,3 +8,4 @@ mod moving;
 
 pub use fault::MoveFault;
 pub use migrating::migrate;
+pub use moving::move_one;

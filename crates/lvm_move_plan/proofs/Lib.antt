@@ -4,5 +4,7 @@ pub mod RisingLemmas
 pub mod ListedLemmas
 pub mod MoveLemmas
 pub mod FreeLemmas
+pub mod LowestLemmas
+pub mod LeavingLemmas
 pub mod GoesOnLemmas
 pub mod LawsLemmas

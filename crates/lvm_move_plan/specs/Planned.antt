@@ -1,12 +1,13 @@
 -- The moves by which copies leave a disk for another one, and what stands against them.
-use Rattle.std.specs.Prelude.{◌≡◌, ℕ, ◌<◌, Bool, ◌&&◌, false, ◌==◌, nat_lt, if◌then◌else◌, List, [], length, map, zip, find, Option, Some, None}
+use Rattle.std.specs.Prelude.{◌≡◌, ℕ, ◌<◌, Bool, ◌&&◌, false, ◌==◌, nat_lt, not, if◌then◌else◌, List, [], length, map, zip, find, Option, Some, None}
 use Rattle.std.specs.List.{list_any}
 use Rattle.std.specs.Option.{option_map, option_map_or}
 use Rattle.lvm_num.specs.declared.place.Pp.{Pp}
+use Rattle.lvm_num.specs.declared.descriptor.PvRow.{PvRow}
 use Rattle.lvm_num.specs.declared.descriptor.LvRow.{LvRow}
 use Rattle.lvm_num.specs.declared.descriptor.Descriptor.{Descriptor}
 use Rattle.lvm_num.specs.Descriptor.{copies_of, member_of, partitions_used, volume_of}
-use Rattle.lvm_map.specs.FirstFit.{free_of, has_partition_on}
+use Rattle.lvm_map.specs.FirstFit.{free_of, has_partition_on, is_among, partitions_of}
 use Rattle.lvm_move_plan.specs.declared.standing.VolumeCopy.{VolumeCopy}
 use Rattle.lvm_move_plan.specs.declared.plan.PlannedMove.{PlannedMove}
 use Rattle.lvm_move_plan.specs.declared.plan.PlanFault.{PlanFault}
@@ -16,6 +17,10 @@ use Rattle.lvm_move_plan.specs.Standing.{standing_on}
 -- the partitions of a member that no volume has, by their numbers
 abbrev pub free_on : Descriptor → ℕ → List Pp
 free_on d disk = option_map_or (free_of (partitions_used d)) (member_of d disk) []
+
+-- the lowest partition of a member that isn't among the used ones
+abbrev pub lowest_free : List Pp → PvRow → Option Pp
+lowest_free used row = find (λ (pp : Pp). not (is_among used pp)) (partitions_of row)
 
 -- each copy moves to the next of these partitions
 abbrev pub moves_to : List VolumeCopy → List Pp → List PlannedMove

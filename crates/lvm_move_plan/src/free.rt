@@ -5,7 +5,7 @@ ghost use Rattle.std.specs.Option.{option_copied};
 ghost use Rattle.lvm_num.specs.declared.descriptor.LvRow.{LvRow};
 ghost use Rattle.lvm_num.specs.Descriptor.{member_of, partitions_used};
 ghost use Rattle.lvm_map.specs.FirstFit.{free_of, is_among};
-ghost use Rattle.lvm_move_plan.specs.Planned.{free_on};
+ghost use Rattle.lvm_move_plan.specs.Planned.{free_on, lowest_free};
 
 use lvm_num::{Descriptor, LvRow, Memory, Pp, PvRow};
 use std::alloc::Global;
@@ -22,6 +22,22 @@ pub fn free_on(alloc: Global, d: &Descriptor, disk: u16) -> Result<Vec<Pp>, Memo
         None => Ok(Vec::new(alloc)),
         Some(row) => free_of(alloc, d, *row),
     }
+}
+
+/// The lowest partition of a member that no volume has, where there is one.
+pub fn lowest_free(d: &Descriptor, row: PvRow) -> Option<Pp>
+    ensures { result ≡ lowest_free (partitions_used d.now) row }
+{
+    for k in 0..row.pps {
+        let pp = Pp {
+            disk: row.disk,
+            pp: k,
+        };
+        if !is_used(d, pp) {
+            return Some(pp);
+        }
+    }
+    None
 }
 
 fn member_of(d: &Descriptor, disk: u16) -> Option<&PvRow>

@@ -6,6 +6,6 @@ pub mod laws;
 mod plan;
 mod standing;
 
-pub use free::free_on;
-pub use plan::{PlanFault, PlannedMove, plan_moves};
-pub use standing::{VolumeCopy, standing_on};
+pub use free::{free_on, lowest_free};
+pub use plan::{PlanFault, PlannedMove, plan_moves, stands_beside};
+pub use standing::{VolumeCopy, is_listed, standing_among, standing_on};

@@ -71,8 +71,8 @@ pub fn plan_moves(
     Ok(moves_to(alloc, &copies, &free)?)
 }
 
-// Whether a copy of the logical partition of this one stands on the disk.
-fn stands_beside(d: &Descriptor, disk: u16, copy: VolumeCopy) -> bool
+/// Whether a copy of the logical partition of this one stands on the disk.
+pub fn stands_beside(d: &Descriptor, disk: u16, copy: VolumeCopy) -> bool
     requires { All IsLaidOut d.now.lvs }
     ensures { result ≡ stands_beside d.now disk copy }
 {

@@ -16,8 +16,10 @@ use Rattle.lvm_parse.specs.Answering.{Answers, AnswersLine}
 of_line : (read : Result Command Misfit) (why : ParseFault) → Answers read (Err why) → AnswersLine (then_ read (λ c. Ok (Some c))) (Err why)
 of_line (Ok c) (fault.BadLine column) is = absurd (cc (is))
 of_line (Err e) (fault.BadLine column) is = let same : e ≡ record { column = column } = cc (is) in ap Err same
-of_line (Ok (command.Mkvg force name mib disks)) fault.Memory is = tt
-of_line read fault.Memory is = absurd is
+of_line (Ok (command.Mkvg force name mib disks)) fault.MkvgMemory is = tt
+of_line read fault.MkvgMemory is = absurd is
+of_line (Ok (command.Reducevg name disks)) fault.ReducevgMemory is = tt
+of_line read fault.ReducevgMemory is = absurd is
 
 -- so where these are the line's words
 pub line_is_refused : (l rest : Left) (w : WordAt) (why : ParseFault) → l ≡ with_word w rest → is_remark w.bytes ≡ false → Answers (rule rows w.bytes w.column rest) (Err why) → AnswersLine (line_of_words l.words l.end) (Err why)

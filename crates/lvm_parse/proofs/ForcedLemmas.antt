@@ -1,5 +1,5 @@
 -- A `mkvg -f` has the word `-f`, so its line has the bytes.
-use Rattle.std.proofs.Common.{◌≡◌, ◌⊎◌, inl, inr, ⊎_elim, ◌∷◌, ◌++◌, [], ℕ, List, Bool, true, false, not, ◌&&◌, Option, Some, None, Result, Ok, Err, is_some, if◌then◌else◌, refl, sym, ◌∙◌, ap, subst, length}
+use Rattle.std.proofs.Common.{◌≡◌, ◌⊎◌, inl, inr, ⊎_elim, ◌∷◌, ◌++◌, [], ℕ, List, Bool, true, false, not, Option, Some, None, Result, Ok, Err, is_some, if◌then◌else◌, refl, sym, ◌∙◌, ap, subst, length}
 use Rattle.std.specs.Prelude.{◌==◌, ◌+◌, ◌-◌, codes, bytes_eq}
 use Rattle.std.proofs.lemmas.Bool.{and_parts}
 use Rattle.std.proofs.lemmas.List.{append_assoc}
@@ -15,7 +15,7 @@ use Rattle.lvm_parse.proofs.OptionsReadingLemmas.{mapped}
 use Rattle.lvm_num.specs.Among.{IsOneOf}
 use Rattle.lvm_parse.specs.declared.command.Command.{Command}
 use Rattle.lvm_parse.specs.declared.command.Command.TheVariants as command
-use Rattle.lvm_parse.specs.Grammar.{Row, rows, rule, rd_disk, rd_volume, rd, wr_disk, wr_volume, wr, post, wait, step, lspv, fail, heal, cut, cut_of, mkvg, varyonvg, varyoffvg, lsvg, chvg_quorum, chvg_big, chvg, mklv, rmlv, mklvcopy, rmlvcopy, split_of, splitlvcopy, moved_between, moved_of, migratepv, sync_group, syncvg, lslv, line_of_words, readable, line_of}
+use Rattle.lvm_parse.specs.Grammar.{Row, rows, rule, rd_disk, rd_volume, rd, wr_disk, wr_volume, wr, post, wait, step, lspv, fail, heal, cut, cut_of, mkvg, varyonvg, varyoffvg, lsvg, chvg_quorum, chvg_big, chvg, leaving, reducevg, mklv, rmlv, mklvcopy, rmlvcopy, split_of, splitlvcopy, moved_between, moved_of, migratepv, sync_group, syncvg, lslv, line_of_words, readable}
 use Rattle.lvm_parse.specs.Forced.{SpellsForce}
 
 -- ---- the words
@@ -173,6 +173,13 @@ moved_of_forces words l = then_forces words (operand name_in l) _ (λ name n. mo
 migratepv_forces : (l : Left) → Forces l.words (migratepv l)
 migratepv_forces l = if_forces l.words (option (codes "-l") l).0 _ _ (moved_of_forces l.words (option (codes "-l") l).1) (moved_between_forces l.words None (option (codes "-l") l).1)
 
+leaving_forces : (words : List WordAt) (name : List ℕ) (l : Left) → Forces words (leaving name l)
+unfolding Forces
+leaving_forces words name l = then_forces words (disks [] l) _ (λ all disks_are. tt)
+
+reducevg_forces : (l : Left) → Forces l.words (reducevg l)
+reducevg_forces l = then_forces l.words (operand name_in l) _ (λ name n. leaving_forces l.words name.0 name.1)
+
 cut_forces : (l : Left) → Forces l.words (cut l)
 unfolding Forces
 cut_forces l = go l.words
@@ -242,7 +249,7 @@ RowsForce [] = Unit {0}
 RowsForce (r ∷ rs) = ((l : Left) → Forces l.words (r.reads l)) × RowsForce rs
 
 rows_force : RowsForce rows
-rows_force = (mkvg_forces, (varyonvg_forces, (varyoffvg_forces, (lsvg_forces, (chvg_forces, (mklv_forces, (rmlv_forces, (mklvcopy_forces, (rmlvcopy_forces, (splitlvcopy_forces, (migratepv_forces, (syncvg_forces, (lslv_forces, (rd_forces, (wr_forces, (post_forces, (wait_forces, (step_forces, (lspv_forces, (fail_forces, (heal_forces, (cut_forces, tt))))))))))))))))))))))
+rows_force = (mkvg_forces, (reducevg_forces, (varyonvg_forces, (varyoffvg_forces, (lsvg_forces, (chvg_forces, (mklv_forces, (rmlv_forces, (mklvcopy_forces, (rmlvcopy_forces, (splitlvcopy_forces, (migratepv_forces, (syncvg_forces, (lslv_forces, (rd_forces, (wr_forces, (post_forces, (wait_forces, (step_forces, (lspv_forces, (fail_forces, (heal_forces, (cut_forces, tt)))))))))))))))))))))))
 
 rule_forces : (rs : List Row) (word : List ℕ) (column : ℕ) (l : Left) → RowsForce rs → Forces l.words (rule rs word column l)
 unfolding Forces

@@ -15,7 +15,7 @@ use Rattle.lvm_parse.specs.Words.{number_in, count_in, partition_count_in, turns
 use Rattle.lvm_parse.specs.declared.range.BlockRange.{BlockRange}
 use Rattle.lvm_parse.specs.Reading.{misfit, then_, or_misfit, column_of, next_column, operand_of, operand, option_of, option, ends_of, ends, last, is_next, blocks, last_blocks, Choice, NoOption, Alone, Valued, options_of, options, required, further_disk, one_or_more, disks_of, disks}
 use Rattle.lvm_parse.specs.Options.{mkvg_choice, no_mkvg_options, mklv_choice, no_mklv_options}
-use Rattle.lvm_parse.specs.Grammar.{rd_disk, rd_volume, rd, wr_disk, wr_volume, wr, post, wait, step, fail, heal, lspv, cut_of, cut, mkvg, varyonvg, varyoffvg, lsvg, chvg_quorum, chvg_big, chvg, mklv, rmlv, mklvcopy, rmlvcopy, split_of, splitlvcopy, moved_between, moved_of, migratepv, sync_group, syncvg, lslv, Row, rows, rule, line_of_words, readable, line_of}
+use Rattle.lvm_parse.specs.Grammar.{rd_disk, rd_volume, rd, wr_disk, wr_volume, wr, post, wait, step, fail, heal, lspv, cut_of, cut, mkvg, varyonvg, varyoffvg, lsvg, chvg_quorum, chvg_big, chvg, reducevg, mklv, rmlv, mklvcopy, rmlvcopy, split_of, splitlvcopy, moved_between, moved_of, migratepv, sync_group, syncvg, lslv, Row, rows, rule, line_of_words, readable, line_of}
 
 -- a column from 1 to this one
 abbrev pub IsIn : ℕ → ℕ → Type 0
@@ -267,6 +267,9 @@ cut_in high l b = at l.words
 mkvg_in : (high : ℕ) (l : Left) → LeftIn high l → In high (mkvg l)
 mkvg_in high l b = options_then high mkvg_choice no_mkvg_options l b _ (λ o b. required_then high o.0.name o.1 b _ (λ name. disks_then high [] o.1 b _ (λ disks. tt)))
 
+reducevg_in : (high : ℕ) (l : Left) → LeftIn high l → In high (reducevg l)
+reducevg_in high l b = operand_then high name_in l b _ (λ name b. disks_then high [] name.1 b _ (λ disks. tt))
+
 varyonvg_in : (high : ℕ) (l : Left) → LeftIn high l → In high (varyonvg l)
 varyonvg_in high l b = last_then high name_in (option (codes "-n") l).1 (option_is_in high (codes "-n") l b) command.Varyon
 
@@ -319,7 +322,7 @@ RowsAreIn [] = ⊤
 RowsAreIn (r ∷ rs) = ((high : ℕ) (l : Left) → LeftIn high l → In high (r.reads l)) × RowsAreIn rs
 
 rows_in : RowsAreIn rows
-rows_in = (mkvg_in, (varyonvg_in, (varyoffvg_in, (lsvg_in, (chvg_in, (mklv_in, (rmlv_in, (mklvcopy_in, (rmlvcopy_in, (splitlvcopy_in, (migratepv_in, (syncvg_in, (lslv_in, (rd_in, (wr_in, (post_in, (wait_in, (step_in, (lspv_in, (fail_in, (heal_in, (cut_in, tt))))))))))))))))))))))
+rows_in = (mkvg_in, (reducevg_in, (varyonvg_in, (varyoffvg_in, (lsvg_in, (chvg_in, (mklv_in, (rmlv_in, (mklvcopy_in, (rmlvcopy_in, (splitlvcopy_in, (migratepv_in, (syncvg_in, (lslv_in, (rd_in, (wr_in, (post_in, (wait_in, (step_in, (lspv_in, (fail_in, (heal_in, (cut_in, tt)))))))))))))))))))))))
 
 rule_in : (high : ℕ) (rs : List Row) (word : List ℕ) (column : ℕ) (l : Left) → RowsAreIn rs → IsIn high column → LeftIn high l → In high (rule rs word column l)
 rule_in high [] word column l each own b = own

@@ -18,7 +18,7 @@ use Rattle.lvm_parse.specs.Options.{mkvg_choice, no_mkvg_options, mklv_choice, n
 use Rattle.lvm_parse.proofs.OptionsReadingLemmas.{mapped, Keeping, keeping_if, options_keep}
 use Rattle.lvm_parse.specs.declared.command.Command.{Command}
 use Rattle.lvm_parse.specs.declared.command.Command.TheVariants as command
-use Rattle.lvm_parse.specs.Grammar.{Row, rows, rule, rd_disk, rd_volume, rd, wr_disk, wr_volume, wr, post, wait, step, lspv, fail, heal, cut, cut_of, mkvg, varyonvg, varyoffvg, lsvg, chvg_quorum, chvg_big, chvg, mklv, rmlv, mklvcopy, rmlvcopy, split_of, splitlvcopy, moved_between, moved_of, migratepv, sync_group, syncvg, lslv, line_of_words, readable, line_of}
+use Rattle.lvm_parse.specs.Grammar.{Row, rows, rule, rd_disk, rd_volume, rd, wr_disk, wr_volume, wr, post, wait, step, lspv, fail, heal, cut, cut_of, mkvg, varyonvg, varyoffvg, lsvg, chvg_quorum, chvg_big, chvg, leaving, reducevg, mklv, rmlv, mklvcopy, rmlvcopy, split_of, splitlvcopy, moved_between, moved_of, migratepv, sync_group, syncvg, lslv, line_of_words, readable, line_of}
 use Rattle.lvm_parse.specs.Within.{IsWithinLimits}
 
 -- ---- what is read
@@ -184,6 +184,13 @@ fits_mkvg l = fits_then (options mkvg_choice no_mkvg_options l) _ (λ o options_
         let kept = options_keep IsFit mkvg_choice choice_is_fit no_mkvg_options l.words l.end o (λ given its. absurd (cc (its)), λ given its. absurd (cc (its))) options_are in
         (differ.0, differ.1, kept.0, kept.1 name (found_of o.0.name (next_column o.1) name named))
 
+fits_leaving : (name : List ℕ) (l : Left) → Fits (leaving name l)
+unfolding Fits disks
+fits_leaving name l = fits_then (disks [] l) _ (λ all disks_are. disks_differ [] l.words l.end all (λ i j d less within. absurd (omega (arith, within))) disks_are)
+
+fits_reducevg : (l : Left) → Fits (reducevg l)
+fits_reducevg l = fits_then (operand name_in l) _ (λ name n. fits_leaving name.0 name.1)
+
 fits_rd : (l : Left) → Fits (rd l)
 unfolding Fits IsCounted
 fits_rd l =
@@ -321,7 +328,7 @@ RowsFit [] = Unit {0}
 RowsFit (r ∷ rs) = ((l : Left) → Fits (r.reads l)) × RowsFit rs
 
 rows_fit : RowsFit rows
-rows_fit = (fits_mkvg, (fits_varyonvg, (fits_varyoffvg, (fits_lsvg, (fits_chvg, (fits_mklv, (fits_rmlv, (fits_mklvcopy, (fits_rmlvcopy, (fits_splitlvcopy, (fits_migratepv, (fits_syncvg, (fits_lslv, (fits_rd, (fits_wr, (fits_post, (fits_wait, (fits_step, (fits_lspv, (fits_fail, (fits_heal, (fits_cut, tt))))))))))))))))))))))
+rows_fit = (fits_mkvg, (fits_reducevg, (fits_varyonvg, (fits_varyoffvg, (fits_lsvg, (fits_chvg, (fits_mklv, (fits_rmlv, (fits_mklvcopy, (fits_rmlvcopy, (fits_splitlvcopy, (fits_migratepv, (fits_syncvg, (fits_lslv, (fits_rd, (fits_wr, (fits_post, (fits_wait, (fits_step, (fits_lspv, (fits_fail, (fits_heal, (fits_cut, tt)))))))))))))))))))))))
 
 fits_rule : (rs : List Row) (word : List ℕ) (column : ℕ) (l : Left) → RowsFit rs → Fits (rule rs word column l)
 unfolding Fits

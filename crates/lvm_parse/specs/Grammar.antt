@@ -106,6 +106,14 @@ chvg_big l = let big = option (codes "-B") l in if big.0 then then_ (last name_i
 abbrev pub chvg : Left → Result Command Misfit
 chvg l = let quorum = option (codes "-Q") l in if quorum.0 then chvg_quorum quorum.1 else chvg_big quorum.1
 
+-- what follows the name of `reducevg`
+abbrev pub leaving : List ℕ → Left → Result Command Misfit
+leaving name l = then_ (disks [] l) (λ disks. Ok (command.Reducevg name disks))
+
+-- `reducevg NAME DISK ..`
+abbrev pub reducevg : Left → Result Command Misfit
+reducevg l = then_ (operand name_in l) (λ name. leaving name.0 name.1)
+
 -- ---- volumes
 
 -- what follows the options of `mklv`; one copy, mode active and `p` where they aren't given
@@ -184,7 +192,7 @@ rows_of_groups = row (codes "varyonvg") varyonvg ∷ row (codes "varyoffvg") var
 
 -- the whole language
 abbrev pub rows : List Row
-rows = row (codes "mkvg") mkvg ∷ rows_of_groups
+rows = row (codes "mkvg") mkvg ∷ row (codes "reducevg") reducevg ∷ rows_of_groups
 
 -- what follows a first word, which begins at this column, by the row of this word; any other isn't in the language
 abbrev pub rule : List Row → List ℕ → ℕ → Left → Result Command Misfit

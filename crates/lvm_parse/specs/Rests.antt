@@ -1,5 +1,5 @@
 -- What the code's rest of a line stands for.
-use Rattle.std.specs.Prelude.{◌≡◌, ⊤, ℕ, ◌<◌, List, ◌∷◌, length, Option, Some, None, Result, Ok, Err, MatchOption, MatchResult}
+use Rattle.std.specs.Prelude.{◌≡◌, ℕ, ◌<◌, List, ◌∷◌, length, Option, Some, None, Result, Ok, Err, MatchOption, MatchResult}
 use Rattle.lvm_parse.specs.declared.rest.Misfit.{Misfit}
 use Rattle.lvm_parse.specs.declared.rest.Rest.{Rest}
 use Rattle.lvm_parse.specs.declared.rest.Word.{Word}

@@ -11,6 +11,7 @@ use Rattle.lvm_parse.specs.Grammar.{line_of}
 -- the numbers and the disks of a command
 abbrev pub IsWithinLimits : Command → Type 0
 IsWithinLimits (command.Mkvg force name mib disks) = (1 ≤ length disks) × AllPairs (λ a b. a ≢ b) disks × ForSome mib (λ given. IsTrue (is_size given)) × IsTrue (is_name name)
+IsWithinLimits (command.Reducevg name disks) = (1 ≤ length disks) × AllPairs (λ a b. a ≢ b) disks
 IsWithinLimits (command.Mklv name copies mode policy group lps) = 1 ≤ lps
 IsWithinLimits (command.RawRd disk at count) = (1 ≤ count) × (count ≤ 4096)
 IsWithinLimits (command.RawWr disk at count word) = (1 ≤ count) × (count ≤ 4096)

@@ -41,6 +41,12 @@ pub enum Command {
     ChvgBig {
         name: Name,
     },
+    /// `reducevg NAME DISK ..`: take these disks, all different, out of a group.
+    Reducevg {
+        name: Name,
+        /// One disk to 128.
+        disks: Rows<u16>,
+    },
     /// `mklv -y NAME [-c N] [-w n, y, a or p] [-d p, s, ps or pr] NAME LPS`: make a logical volume in the group.
     Mklv {
         name: Name,
@@ -165,7 +171,9 @@ pub enum ParseFault {
     /// behind its last byte where a word is lacking; columns count bytes from 1.
     BadLine { column: u32 },
     /// Want of memory for the disks of a `mkvg`.
-    Memory,
+    MkvgMemory,
+    /// Want of memory for those of a `reducevg`.
+    ReducevgMemory,
 }
 
 impl From<Misfit> for ParseFault {

@@ -14,7 +14,7 @@
 //! | What it asks for | |---|---| | `mkvg [-f] -y NAME [-s MIB] DISK ..` | make a volume group of 1 to 128
 //! disks, all different, and vary it on; `-s` is the size of a partition, `-f` takes disks of another group
 //! too | | `varyonvg [-n] NAME` | vary a group on; `-n` changes nothing | | `varyoffvg NAME` | vary it off |
-//! | `lsvg [-l] NAME` | list the group, or with `-l` its volumes | | `chvg -Q V NAME` | switch quorum checking of a group on, where `V` is `y`, or off, where it is `n` | | `chvg -B NAME` | make a group a big one | | `mklv -y NAME [-c N] [-w MODE] [-d
+//! | `lsvg [-l] NAME` | list the group, or with `-l` its volumes | | `chvg -Q V NAME` | switch quorum checking of a group on, where `V` is `y`, or off, where it is `n` | | `chvg -B NAME` | make a group a big one | | `reducevg NAME DISK ..` | take 1 to 128 disks, all different, out of the group | | `mklv -y NAME [-c N] [-w MODE] [-d
 //! POLICY] NAME LPS` | make a volume, the first name, in the group, the second, of so many logical
 //! partitions; `-c` is the number of copies, 1 where it isn't given; `-w` is `y` or `a` (active, where it
 //! isn't given), `p` (passive) or `n` (off); `-d` is `p` (parallel, where it isn't given), `s` (sequential), `ps` or `pr` |

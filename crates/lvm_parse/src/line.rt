@@ -3,15 +3,15 @@ ghost use Rattle.std.specs.Prelude.{◌≡◌, ◌↔◌, ℕ, IfOk, Ok, Err};
 ghost use Rattle.lvm_parse.specs.Reading.{misfit};
 ghost use Rattle.lvm_parse.specs.Grammar.{rows_of_disks, rows_of_requests, rows_of_volumes, rows_of_groups, rows, rule, line_of_words, line_of};
 ghost use Rattle.lvm_parse.specs.Rests.{left};
-ghost use Rattle.lvm_parse.specs.Answering.{Answers, AnswersLine, IsMkvgLine};
+ghost use Rattle.lvm_parse.specs.Answering.{Answers, AnswersLine, IsMkvgLine, IsReducevgLine};
 
 use crate::command::{Command, ParseFault};
 use crate::operands::misfit;
 use crate::operands_line::{is_remark, unreadable_at};
 use crate::rest::{Misfit, Rest, Word};
 use crate::rules::{
-    chvg, cut, fail, heal, lslv, lspv, lsvg, migratepv, mklv, mklvcopy, mkvg, post, rd, rmlv,
-    rmlvcopy, splitlvcopy, step, syncvg, varyoffvg, varyonvg, wait, wr,
+    chvg, cut, fail, heal, lslv, lspv, lsvg, migratepv, mklv, mklvcopy, mkvg, post, rd, reducevg,
+    rmlv, rmlvcopy, splitlvcopy, step, syncvg, varyoffvg, varyonvg, wait, wr,
 };
 use crate::scan::next_word;
 use std::alloc::Global;
@@ -80,7 +80,7 @@ fn volume_command(word: Word<'_>, rest: Rest<'_>) -> Result<Command, Misfit>
     }
 }
 
-// So of groups, but for `mkvg`.
+// So of groups, but for `mkvg` and `reducevg`.
 fn group_command(word: Word<'_>, rest: Rest<'_>) -> Result<Command, Misfit>
     ensures { result ≡ rule rows_of_groups word.entry.bytes.now word.entry.column (left rest.entry) }
 {
@@ -104,6 +104,8 @@ fn command(alloc: Global, word: Word<'_>, rest: Rest<'_>) -> Result<Command, Par
 {
     if word.bytes == b"mkvg".as_slice() {
         mkvg(alloc, rest)
+    } else if word.bytes == b"reducevg".as_slice() {
+        reducevg(alloc, rest)
     } else {
         Ok(group_command(word, rest)?)
     }
@@ -144,7 +146,10 @@ pub fn parse(alloc: Global, line: &[u8]) -> Result<Option<Command>, ParseFault>
     ensures bad_line { (column : ℕ) → (result ≡ Err (ParseFault.BadLine column)) ↔ (line_of line.now ≡ misfit column) }
 
     // It is a `mkvg` of the language.
-    ensures memory { result ≡ Err ParseFault.Memory → IsMkvgLine (line_of line.now) }
+    ensures mkvg_memory { result ≡ Err ParseFault.MkvgMemory → IsMkvgLine (line_of line.now) }
+
+    // It is a `reducevg` of the language.
+    ensures reducevg_memory { result ≡ Err ParseFault.ReducevgMemory → IsReducevgLine (line_of line.now) }
 {
     read_line(alloc, line)
 }

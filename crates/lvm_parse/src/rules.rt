@@ -1,6 +1,6 @@
 //! The lines of the language: each rule reads what follows the line's first word.
 ghost use Rattle.std.specs.Prelude.{◌≡◌};
-ghost use Rattle.lvm_parse.specs.Grammar.{rd_disk, rd_volume, rd, wr_disk, wr_volume, wr, post, wait, step, fail, heal, lspv, cut, new_group, mkvg, varyonvg, varyoffvg, lsvg, chvg_quorum, chvg_big, chvg, new_volume, mklv, rmlv, mklvcopy, rmlvcopy, split_of, splitlvcopy, moved_between, moved_of, migratepv, sync_group, syncvg, lslv};
+ghost use Rattle.lvm_parse.specs.Grammar.{rd_disk, rd_volume, rd, wr_disk, wr_volume, wr, post, wait, step, fail, heal, lspv, cut, new_group, mkvg, varyonvg, varyoffvg, lsvg, chvg_quorum, chvg_big, chvg, leaving, reducevg, new_volume, mklv, rmlv, mklvcopy, rmlvcopy, split_of, splitlvcopy, moved_between, moved_of, migratepv, sync_group, syncvg, lslv};
 ghost use Rattle.lvm_parse.specs.Rests.{left};
 ghost use Rattle.lvm_parse.specs.Answering.{Answers};
 
@@ -419,6 +419,30 @@ fn new_group(alloc: Global, options: MkvgOptions, rest: Rest<'_>) -> Result<Comm
             mib: options.mib,
             disks: Rows::new(disks),
         }),
-        Err(_) => Err(ParseFault::Memory),
+        Err(_) => Err(ParseFault::MkvgMemory),
+    }
+}
+
+/// `reducevg NAME DISK ..`
+pub fn reducevg(alloc: Global, rest: Rest<'_>) -> Result<Command, ParseFault>
+    ensures { Answers (reducevg (left rest.entry)) result }
+{
+    match name(rest) {
+        Ok((name, rest)) => leaving(alloc, name, rest),
+        Err(misfit) => Err(ParseFault::from(misfit)),
+    }
+}
+
+// What follows the name of a `reducevg`.
+fn leaving(alloc: Global, name: Name, rest: Rest<'_>) -> Result<Command, ParseFault>
+    ensures { Answers (leaving name (left rest.entry)) result }
+{
+    let disks = disks(rest)?;
+    match Vec::from_slice(alloc, disks.as_slice()) {
+        Ok(disks) => Ok(Command::Reducevg {
+            name,
+            disks: Rows::new(disks),
+        }),
+        Err(_) => Err(ParseFault::ReducevgMemory),
     }
 }

@@ -1,5 +1,5 @@
 -- Runs over a shelf that heeds orders alone.
-use Rattle.std.proofs.Common.{◌≡◌, inl, inr, ◌≤◌, ℕ, Bool, true, List, [], Option, Some, None, IfSome, Result, Ok, refl, sym, ◌∙◌, ap, subst, arith}
+use Rattle.std.proofs.Common.{◌≡◌, inl, inr, ⊎_elim, ◌≤◌, ℕ, Bool, true, List, [], Option, Some, None, IfSome, Result, Ok, refl, sym, ◌∙◌, ap, subst, arith}
 use Rattle.lvm_disk.specs.Counts.{Rose, RoseBy}
 use Rattle.lvm_disk.specs.Device.{Device, Ordered, Orders}
 use Rattle.lvm_disk.specs.Paths.{DeviceStep, Path, Here, Then}
@@ -20,21 +20,17 @@ use Rattle.lvm_core.specs.declared.parts.Room.{Room}
 use Rattle.lvm_session.specs.declared.open.Power.{Power}
 use Rattle.lvm_session.specs.declared.open.Power.TheVariants as power
 use Rattle.lvm_session.specs.State.{Core}
-use Rattle.lvm_line.specs.Causes.{HasCause, HasFailedInSession, WereLost}
-use Rattle.lvm_line.specs.Complete.{NothingFailed}
-use Rattle.lvm_line.specs.Lines.{IsLine, IsOrder, LineDoes, role_of}
-use Rattle.lvm_line.specs.Told.{NothingSince}
-use Rattle.lvm_line.specs.passed.GroupLines.{ArrangeDoes, CutDoes, CutNotPlanned, IsArranged, NotPlanned, NotThere, PowerIsCut, IsAlone, IsClosed, IsTimely, Reply, ScriptState, StandsBy, patience_of_line}
-use Rattle.lvm_line.specs.passed.RefusalVariants as refusal
-use Rattle.lvm_line.specs.passed.ReplyVariants as reply
+use Rattle.lvm_top.specs.passed.Line.{HasCause, HasFailedInSession, LacksOnTheWay, WereLost, NothingFailed, IsLine, IsOrder, LineDoes, role_of, NothingSince}
+use Rattle.lvm_top.specs.passed.GroupLines.{ArrangeDoes, CutDoes, CutNotPlanned, IsArranged, NotPlanned, NotThere, PowerIsCut, IsAlone, IsClosed, IsTimely, Reply, ScriptState, StandsBy, patience_of_line}
+use Rattle.lvm_top.specs.passed.RefusalVariants as refusal
+use Rattle.lvm_top.specs.passed.ReplyVariants as reply
 use Rattle.lvm_top.specs.Ending.{Concludes, NoneIsOn, NoneIsServed, IsServed, NothingIsLeft, TurnsAreMade}
 use Rattle.lvm_top.proofs.passed.Tie.{path_frames}
-use Rattle.lvm_program.specs.Heeding.{AreHarmless, AreUntroubled, EndsHarmless, EndsUntroubled, GoesWell, IsHarm, IsHarmless, IsTroubled, IsUntroubled, RanHarmless, LinesOrderAlone, RunsHeedAlone, HarmlessRunsGoWell, HarmlessScriptsGoWell, ordered_after, ordered_behind, orders_of}
+use Rattle.lvm_program.specs.Heeding.{AreHarmless, AreUntroubled, EndsHarmless, EndsUntroubled, GoesWell, IsHarm, IsHarmless, IsShortOfVotes, IsTroubled, IsUntroubled, RanHarmless, LinesOrderAlone, RunsHeedAlone, HarmlessRunsGoWell, HarmlessScriptsGoWell, ordered_after, ordered_behind, orders_of}
 use Rattle.lvm_top.specs.Run.{Run, IsRun, RanAlone}
 use Rattle.lvm_top.specs.Script.{Script, NoLine, NextLine, StaysAlone, Ends, AtLine, InLine, EndsAlone, EndsStuck, empty_log, entry_state, facts_of}
 use Rattle.lvm_top.proofs.LawsLemmas.Scripts.{first_stands}
-use Rattle.lvm_line.proofs.CausesLemmas.Posting.{told_is_well}
-use Rattle.lvm_line.proofs.CompleteLemmas.Completing.{lines_complete}
+use Rattle.lvm_top.proofs.passed.Line.{told_is_well, lines_complete}
 use Rattle.lvm_top.proofs.RefusedLemmas.{line_caused}
 use Rattle.lvm_top.proofs.ScriptLemmas.Concluding.{spanned}
 use Rattle.lvm_top.proofs.ScriptLemmas.Scripting.{begins_timely, script_went}
@@ -65,7 +61,7 @@ were_lost : (have total : ℕ) (old new : ScriptState) → WereLost (refusal.Wen
 were_lost have total old new (inl member) none = once _ _ (none.faults member.disk) member.failed
 were_lost have total old new (inr undrained) none = in_session old new undrained.1 none
 
-went_off : (read : Result (Option Command) Misfit) (have total : ℕ) (old new : ScriptState) → HasCause read (refusal.WentOff have total) old new → NothingCounted new.moment.device.counts → ⊥
+went_off : (read : Result (Option Command) Misfit) (have total : ℕ) (old new : ScriptState) → HasCause read (refusal.WentOff have total) old new → NothingCounted new.moment.device.counts → LacksOnTheWay read have total old
 went_off (Ok (Some (command.Rd name at count))) have total old new cause none = in_session old new cause.1 none
 went_off (Ok (Some (command.Wr name at count word))) have total old new cause none = in_session old new cause.1 none
 went_off (Ok (Some (command.Post name at count word))) have total old new cause none = in_session old new cause.1 none
@@ -74,11 +70,11 @@ went_off (Ok (Some (command.SyncVolume name))) have total old new cause none = i
 went_off (Ok (Some (command.SyncGroup name))) have total old new cause none = in_session old new cause.1 none
 went_off (Ok (Some (command.Migratepv volume from to))) have total old new cause none = in_session old new cause.1 none
 went_off (Ok (Some (command.Step turns))) have total old new cause none = in_session old new cause.1 none
-went_off read have total old new cause none = were_lost have total old new cause.1 none
+went_off read have total old new cause none = ⊎_elim (λ lost. absurd (were_lost have total old new lost none)) (λ lacks. lacks) cause.1
 
--- so no line is refused for it
+-- so no line is refused for it, but for votes that it lacks on its way
 module _ (log : Log) (room : Room) (line : List ℕ) (old new : ScriptState) (none : NothingCounted new.moment.device.counts) where
-  pub untroubled : (answer : Reply) → IsLine log room line answer old new → IsTroubled answer → ⊥
+  pub untroubled : (answer : Reply) → IsLine log room line answer old new → IsTroubled answer → IsShortOfVotes (line_of line) answer old
   untroubled (reply.Refused (refusal.DiskFailed disk)) it troubled = lines_complete log room line (refusal.DiskFailed disk) old new it (nothing_failed (line_of line) old new none)
   untroubled (reply.Refused refusal.Lost) it troubled = lines_complete log room line refusal.Lost old new it (nothing_failed (line_of line) old new none)
   untroubled (reply.Refused refusal.ReadFailed) it troubled = lines_complete log room line refusal.ReadFailed old new it (nothing_failed (line_of line) old new none)
@@ -182,8 +178,8 @@ harmless_scripts_go_well log room past first lines replies last script begin alo
 
 -- nothing was heard of a transfer only where that is answered
 never_stuck : {log : Log} {room : Room} {mid last : ScriptState} {done : List (List ℕ)} {said : List Reply} {front : List ℕ} (ends : Ends log room mid last done said front) → EndsStuck ends → EndsUntroubled ends → ⊥
-never_stuck (AtLine same) stuck well = stuck
-never_stuck (InLine line answer said front rest says split it) stuck well = well.0 (subst IsTroubled (sym stuck) tt)
+never_stuck {mid = mid} (AtLine same) stuck well = stuck
+never_stuck {mid = mid} (InLine line answer said front rest says split it) stuck well = subst (λ (a : Reply). IsShortOfVotes (line_of line) a mid) stuck (well.0 (subst IsTroubled (sym stuck) tt))
 
 module _ (r : Run) (ran : IsRun r) (clock : StampsAreEarlier r.named r.entry) (alone : RanAlone ran) where
   its_path : Path DeviceStep (λ d. Unit {0}) r.entry r.exit

@@ -24,21 +24,18 @@ use Rattle.lvm_load.specs.Landing.{EntersWell}
 use Rattle.lvm_load.specs.MovingLanding.{EntersOnWay, KeepsMovingFrame, LeavesMoving}
 use Rattle.lvm_load.proofs.MovingLandingLemmas.{frame_later, requests_land_on_way}
 use Rattle.lvm_load.proofs.LandingLemmas.{enters_both, enters_none, enters_one, leaves_nothing, leaves_then, requests_land_well, sound_later}
-use Rattle.lvm_line.specs.Lines.{IsLine, LineDoes, role_of}
-use Rattle.lvm_line.specs.passed.ReplyVariants as reply
-use Rattle.lvm_line.specs.passed.GroupLines.{IsBetween, IsOnBetween, IsRequesting, Reply, ScriptState, is_unheard}
-use Rattle.lvm_line.specs.passed.RangeLines.{CarriesBy, EndsWell, Fails, FailsIf, Finishes, NoStepWhileOff, NotBegun, NotPosted, NotThere, NothingMoves, OnVolume, Posted, Posts, StepDoes, Steps, There, WhileOff}
-use Rattle.lvm_line.specs.passed.RangeLinesWaiting.{TellsAll}
-use Rattle.lvm_line.specs.passed.MoveLines.{MigratepvDoes, MovesCopies, NoGroupForMoves, NotAskedForMoves, NothingMoves as NoneMoves}
-use Rattle.lvm_line.specs.passed.RangeLines.{Ending, is_stuck}
-use Rattle.lvm_line.specs.passed.RangeLinesWaiting.{AtRest, Awaits, Goes, InVain, Over, WaitDoes, WaitEnds, WaitsOn, WhileOff as WaitsWhileOff}
-use Rattle.lvm_line.specs.passed.RangeLinesWaiting.{NoGone, OneGone, TakesGone, WaitsOver}
-use Rattle.lvm_line.specs.passed.Resync.{Copy, SyncFault}
-use Rattle.lvm_line.specs.passed.Tie.{LeavesSession}
-use Rattle.lvm_line.specs.passed.VolumeLines.{IsSynced, NoGroupForSync, NoVolumeForSync, NothingSyncs, OtherGroupForSync, SyncGroupDoes, SyncVolumeDoes, SyncsGroup, SyncsVolume}
-use Rattle.lvm_line.proofs.CausesLemmas.Turns.{fails_counts, leaves_counts, over_counts}
-use Rattle.lvm_line.proofs.passed.GroupLines.{same_goes}
-use Rattle.lvm_line.proofs.passed.Tie.{goes_any, path_shape}
+use Rattle.lvm_top.specs.passed.Line.{IsLine, LineDoes, role_of}
+use Rattle.lvm_top.specs.passed.ReplyVariants as reply
+use Rattle.lvm_top.specs.passed.GroupLines.{IsBetween, IsOnBetween, IsRequesting, Reply, ScriptState, is_unheard}
+use Rattle.lvm_top.specs.passed.RangeLines.{CarriesBy, EndsWell, Fails, FailsIf, Finishes, NoStepWhileOff, NotBegun, NotPosted, NotThere, NothingMoves, OnVolume, Posted, Posts, StepDoes, Steps, There, WhileOff, Ending, is_stuck}
+use Rattle.lvm_top.specs.passed.RangeLinesWaiting.{TellsAll, AtRest, Awaits, Goes, InVain, Over, WaitDoes, WaitEnds, WaitsOn, WhileOff as WaitsWhileOff, NoGone, OneGone, TakesGone, WaitsOver}
+use Rattle.lvm_top.specs.passed.MoveLines.{MigratepvDoes, MovesCopies, NoGroupForMoves, NotAskedForMoves, NothingMoves as NoneMoves}
+use Rattle.lvm_top.specs.passed.Resync.{Copy, SyncFault}
+use Rattle.lvm_top.specs.passed.Tie.{LeavesSession}
+use Rattle.lvm_top.specs.passed.VolumeLines.{IsSynced, NoGroupForSync, NoVolumeForSync, NothingSyncs, OtherGroupForSync, SyncGroupDoes, SyncVolumeDoes, SyncsGroup, SyncsVolume}
+use Rattle.lvm_top.proofs.passed.Line.{fails_counts, leaves_counts, over_counts}
+use Rattle.lvm_top.proofs.passed.GroupLines.{same_goes}
+use Rattle.lvm_top.proofs.passed.Tie.{goes_any, path_shape}
 use Rattle.lvm_parse.specs.Reading.{ends}
 use Rattle.lvm_program.specs.Landing.{LandsIn, LandsInLine, LandsOnWay, LinesLandWell, NothingSince, SomeLineLandsWell}
 

@@ -6,12 +6,12 @@ use Rattle.lvm_order_laws.specs.Worked.{fresh}
 use Rattle.lvm_order_laws.proofs.AloneLemmas.{fresh_is_unharmed}
 use Rattle.lvm_parse.specs.Reading.{ends, operand}
 use Rattle.lvm_parse.specs.Grammar.{line_of}
-use Rattle.lvm_line.specs.passed.RefusalVariants as refusal
-use Rattle.lvm_line.proofs.passed.GroupLines.{same_goes}
-use Rattle.lvm_line.specs.Lines.{IsLine, role_of}
-use Rattle.lvm_line.specs.passed.GroupLines.{IsAlone, Role, IsBetween, Reply, ScriptState}
-use Rattle.lvm_line.specs.passed.RangeLines.{NoStepWhileOff}
-use Rattle.lvm_line.specs.passed.ReplyVariants as reply
+use Rattle.lvm_top.specs.passed.RefusalVariants as refusal
+use Rattle.lvm_top.proofs.passed.GroupLines.{same_goes}
+use Rattle.lvm_top.specs.passed.Line.{IsLine, role_of}
+use Rattle.lvm_top.specs.passed.GroupLines.{IsAlone, Role, IsBetween, Reply, ScriptState}
+use Rattle.lvm_top.specs.passed.RangeLines.{NoStepWhileOff}
+use Rattle.lvm_top.specs.passed.ReplyVariants as reply
 use Rattle.lvm_top.specs.declared.status.ExitStatus.TheVariants as ended
 use Rattle.lvm_top.specs.Ending.{NoneIsOn}
 use Rattle.lvm_top.specs.Run.{Run, IsRun}

@@ -13,11 +13,10 @@ use Rattle.lvm_parse.specs.declared.rest.Misfit.{Misfit}
 use Rattle.lvm_parse.specs.Grammar.{line_of}
 use Rattle.lvm_steps.specs.Behind.{StampsAreEarlier}
 use Rattle.lvm_core.specs.declared.parts.Room.{Room}
-use Rattle.lvm_line.specs.Lines.{IsOrder}
-use Rattle.lvm_line.specs.Told.{IsWellTold}
-use Rattle.lvm_line.specs.passed.GroupLines.{Reply, ScriptState}
-use Rattle.lvm_line.specs.passed.RefusalVariants as refusal
-use Rattle.lvm_line.specs.passed.ReplyVariants as reply
+use Rattle.lvm_top.specs.passed.Line.{LacksOnTheWay, IsOrder, IsWellTold}
+use Rattle.lvm_top.specs.passed.GroupLines.{Reply, ScriptState}
+use Rattle.lvm_top.specs.passed.RefusalVariants as refusal
+use Rattle.lvm_top.specs.passed.ReplyVariants as reply
 use Rattle.lvm_top.specs.declared.status.ExitStatus.TheVariants as ended
 use Rattle.lvm_top.specs.Laws.{MayRun}
 use Rattle.lvm_top.specs.Run.{Run, IsRun, RanAlone, WhereAlone}
@@ -67,9 +66,14 @@ IsTroubled (reply.Refused refusal.Stuck) = Unit {0}
 IsTroubled (reply.Refused (refusal.SyncFailed disk)) = Unit {0}
 IsTroubled other = ⊥
 
--- a line isn't answered so, and if it is a `wait`, it tells of each post of its session that it is done, or had no copy
+-- it was answered so for votes that it lacked on its way, with nothing that a shelf did in it
+abbrev pub IsShortOfVotes : Result (Option Command) Misfit → Reply → ScriptState → Type 0
+IsShortOfVotes read (reply.Refused (refusal.WentOff have total)) old = LacksOnTheWay read have total old
+IsShortOfVotes read other old = ⊥
+
+-- a line isn't answered so, but a `reducevg` that lacks votes on its way; and if it is a `wait`, it tells of each post of its session that it is done, or had no copy
 abbrev pub IsUntroubled : List ℕ → Reply → ScriptState → ScriptState → Type 0
-IsUntroubled line answer old new = (IsTroubled answer → ⊥) × IsWellTold (line_of line) answer old new
+IsUntroubled line answer old new = (IsTroubled answer → IsShortOfVotes (line_of line) answer old) × IsWellTold (line_of line) answer old new
 
 -- so is each line of the script,
 abbrev pub AreUntroubled : {log : Log} {room : Room} {first : ScriptState} {lines : List (List ℕ)} {replies : List Reply} {last : ScriptState} → Script log room first lines replies last → Type 0

@@ -14,8 +14,8 @@ use Rattle.lvm_load.specs.declared.workload.Workload.{Workload}
 use Rattle.lvm_load.specs.declared.workload.Woven.{Woven}
 use Rattle.lvm_load.specs.Landing.{AreWell, EntersWell}
 use Rattle.lvm_load.specs.MovingLanding.{EntersOnWay}
-use Rattle.lvm_line.specs.Lines.{IsLine, role_of}
-use Rattle.lvm_line.specs.passed.GroupLines.{IsRequesting, Reply, ScriptState}
+use Rattle.lvm_top.specs.passed.Line.{IsLine, role_of}
+use Rattle.lvm_top.specs.passed.GroupLines.{IsRequesting, Reply, ScriptState}
 use Rattle.lvm_program.specs.Woven.{Drawn, EndsWoven, Exit, NotMade}
 
 -- No client waits, and each request has landed: as done or got, or where no copy of it could be used when the session began. So none is lost, and none is refused where each had a copy.

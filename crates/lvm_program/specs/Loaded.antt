@@ -19,12 +19,11 @@ use Rattle.lvm_load.specs.Lending.{KeepsServing}
 use Rattle.lvm_load.specs.Serving.{IsLoadedBy}
 use Rattle.lvm_ranges.specs.declared.fault.SyncFault.{SyncFault}
 use Rattle.lvm_ranges.specs.declared.fault.SyncFault.TheVariants as fault
-use Rattle.lvm_line.specs.passed.GroupLines.{Refusal}
-use Rattle.lvm_line.specs.passed.RefusalVariants as refusal
+use Rattle.lvm_top.specs.passed.GroupLines.{Refusal, Holder, IsAlone, IsClosed, OfRequests, Reply, ScriptState}
+use Rattle.lvm_top.specs.passed.RefusalVariants as refusal
 use Rattle.lvm_top.specs.passed.Lines.{IsLine, role_of}
-use Rattle.lvm_line.specs.passed.ReplyVariants as reply
+use Rattle.lvm_top.specs.passed.ReplyVariants as reply
 use Rattle.lvm_top.specs.passed.HolderVariants as holder
-use Rattle.lvm_top.specs.passed.GroupLines.{Holder, IsAlone, IsClosed, OfRequests, Reply, ScriptState}
 use Rattle.lvm_top.specs.declared.script.Stop.{Stop}
 use Rattle.lvm_top.specs.declared.status.ExitStatus.{ExitStatus}
 use Rattle.lvm_top.specs.declared.status.ExitStatus.TheVariants as ended

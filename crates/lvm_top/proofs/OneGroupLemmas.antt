@@ -44,6 +44,8 @@ use Rattle.lvm_top.proofs.LeavesLemmas.Quiet.{lit_nothing, quiet_nothing, stays_
 use Rattle.lvm_top.proofs.StandingLemmas.Volumes.{done_finds, found_before, idle_nothing, undrained_nothing}
 use Rattle.lvm_top.proofs.StandingLemmas.Copying.{fewer_id, more_id}
 use Rattle.lvm_top.proofs.StandingLemmas.Splitting.{split_id}
+use Rattle.lvm_line.specs.passed.MemberLines.{BusyReducevg, IsReducedBy, NoGroupForReducevg, NoMemoryForReducevg, ReducesGroup, ReducevgDoes, ReducevgFails, UndrainedReducevg}
+use Rattle.lvm_top.proofs.StandingLemmas.Reducing.{reduced_id}
 use Rattle.lvm_top.proofs.StandingLemmas.Changing.{change_finds}
 use Rattle.lvm_top.proofs.StandingLemmas.Moving.{found_first, migrated_finds, own_moved}
 use Rattle.lvm_line.specs.passed.MoveLines.{MigratepvDoes, MovesCopies, NoGroupForMoves, NotAskedForMoves, NothingMoves}
@@ -241,6 +243,14 @@ module _ (log : Log) (old new : ScriptState) (answer : Reply) (shelf : IsShelf o
     chvg_big_one name (BecomesBig core left mid some mine drains done is) = changed_one (IsNext (as_big mid.core.descriptor)) core left mid some drains (λ k is. ap (λ (d : Descriptor). d.id) is) done
     chvg_big_one name (ChvgBigFails core left mid why some mine drains done is) = changed_one (IsNext (as_big mid.core.descriptor)) core left mid some drains (λ k is. ap (λ (d : Descriptor). d.id) is) done
 
+    reducevg_one : (name disks : List ℕ) → ReducevgDoes name disks old new answer → FindsOneGroup now
+    reducevg_one name disks (NoGroupForReducevg none is) = same_one is.1
+    reducevg_one name disks (NoMemoryForReducevg some is) = same_one is.1
+    reducevg_one name disks (BusyReducevg mine busy is) = same_one is.1
+    reducevg_one name disks (UndrainedReducevg core why some mine un) = nothing_one was now (undrained_nothing log.run old new between named stood core why answer some un) one
+    reducevg_one name disks (ReducesGroup core left mid some mine drains done is) = changed_one (IsReducedBy disks mid.core.descriptor) core left mid some drains (reduced_id disks mid.core.descriptor) done
+    reducevg_one name disks (ReducevgFails core left mid why some mine drains done is) = changed_one (IsReducedBy disks mid.core.descriptor) core left mid some drains (reduced_id disks mid.core.descriptor) done
+
   -- ---- `migratepv`
 
   migratepv_one : (volume : Option (List ℕ)) (from to : ℕ) → StandsForMoves log.run OfRequests old new → MigratepvDoes volume from to old new answer → FindsOneGroup now
@@ -270,6 +280,7 @@ module _ (log : Log) (old new : ScriptState) (answer : Reply) (shelf : IsShelf o
   line_one room line unforced (Ok (Some (command.Rmlv name))) is stood may does = rmlv_one stood name does
   line_one room line unforced (Ok (Some (command.ChvgQuorum on name))) is stood may does = chvg_quorum_one stood on name does
   line_one room line unforced (Ok (Some (command.ChvgBig name))) is stood may does = chvg_big_one stood name does
+  line_one room line unforced (Ok (Some (command.Reducevg name disks))) is stood may does = reducevg_one stood name disks does
   line_one room line unforced (Err misfit) is stood may does = other_one room line _ is stood tt (λ id k it. it.is) does
   line_one room line unforced (Ok None) is stood may does = other_one room line _ is stood tt (λ id k it. it.is) does
   line_one room line unforced (Ok (Some (command.Varyon name))) is stood may does = other_one room line _ is stood tt (λ id k it. it.is) does

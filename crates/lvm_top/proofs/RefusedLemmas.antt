@@ -22,7 +22,7 @@ module _ (log : Log) (room : Room) where
   pub line_caused : (line : List ℕ) (answer : Reply) (old new : ScriptState) → IsLine log room line answer old new → IsForCause line answer old new
   line_caused line answer old new it = (refused_for line answer old new it, told_causes log room line answer old new it)
 
-  line_complete : (line : List ℕ) (answer : Reply) (old new : ScriptState) → IsLine log room line answer old new → NothingFailed (line_of line) old new → IsWell old answer
+  line_complete : (line : List ℕ) (answer : Reply) (old new : ScriptState) → IsLine log room line answer old new → NothingFailed (line_of line) old new → IsWell line old answer
   line_complete line (reply.Refused why) old new it nothing = lines_complete log room line why old new it nothing
   line_complete line other old new it nothing = tt
 

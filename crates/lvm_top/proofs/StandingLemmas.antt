@@ -2,6 +2,7 @@ pub mod Volumes
 pub mod Copying
 pub mod Splitting
 pub mod Changing
+pub mod Reducing
 pub mod Tied
 pub mod Moving
 pub mod Groups

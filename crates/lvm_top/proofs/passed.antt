@@ -1,1 +1,4 @@
+pub mod GroupLines
+pub mod Line
+pub mod RangeLines
 pub mod Tie

@@ -39,15 +39,15 @@ EndsInTime (AtLine same) = Unit {0}
 EndsInTime {mid = mid} {last = last} (InLine line answer said front rest says split does) = RoseBy patience_of_line mid.moment.device.counts.waits last.moment.device.counts.waits → ⊥
 
 -- a line is refused for nothing that the shelf did in it, if it is
-abbrev pub IsWell : ScriptState → Reply → Type 0
-IsWell old (reply.Refused why) = IsOwn old why
-IsWell old other = Unit {0}
+abbrev pub IsWell : List ℕ → ScriptState → Reply → Type 0
+IsWell line old (reply.Refused why) = IsOwn (line_of line) old why
+IsWell line old other = Unit {0}
 
 -- So is each of the lines of a script in which nothing failed; and each post that a `wait` tells of a session on which nothing failed is done, or had no copy.
 abbrev pub AreComplete : {log : Log} {room : Room} {first : ScriptState} {lines : List (List ℕ)} {replies : List Reply} {last : ScriptState}
     → Script log room first lines replies last → Type 0
 AreComplete NoLine = Unit {0}
-AreComplete (NextLine {mid = mid} {new = new} line answer said goes says before does) = AreComplete before × (NothingFailed (line_of line) mid new → IsWell mid answer) × (NothingSince mid new → IsWellTold (line_of line) answer mid new)
+AreComplete (NextLine {mid = mid} {new = new} line answer said goes says before does) = AreComplete before × (NothingFailed (line_of line) mid new → IsWell line mid answer) × (NothingSince mid new → IsWellTold (line_of line) answer mid new)
 
 -- In whatever script that is so.
 abbrev pub ScriptsAreComplete : Type 0

@@ -23,6 +23,7 @@ use Rattle.lvm_line.specs.passed.MoveLines.{IsAsked, MayHaveMoved, PlannedMove, 
 use Rattle.lvm_line.specs.passed.GroupLines.{asked_for, IsAlone, IsBrokenOff, OfRequests, Role, IsAtRest, StandsBy, ScriptState, Reply}
 use Rattle.lvm_line.specs.passed.VolumeLines.{Drains, wanted}
 use Rattle.lvm_line.specs.passed.ReplyVariants as reply
+use Rattle.lvm_line.specs.passed.MemberLines.{IsReducedBy}
 use Rattle.lvm_top.specs.Script.{Script, NoLine, NextLine, Ends, AtLine, InLine}
 use Rattle.lvm_volume_plan.specs.NewVolume.{without_volume}
 
@@ -42,12 +43,13 @@ pub record HasMovedSome (d : Descriptor) (lv : Option ℕ) (from to : ℕ) (k : 
   pub all : planned_moves d lv from to ≡ (first ∷ moved) ++ rest
   pub is : k ≡ after_moves d (first ∷ moved)
 
--- the descriptor that a line was to commit: of the group that is made, or of that which is on with quorum checking switched, as a big one, with a volume more or without
--- one, with more or fewer copies, with a volume split, or with copies that have moved
+-- the descriptor that a line was to commit: of the group that is made, or of that which is on with quorum checking switched, as a big one, without members or some of them, with a volume more
+-- or without one, with more or fewer copies, with a volume split, or with copies that have moved
 abbrev pub IsToCommit : Result (Option Command) Misfit → ScriptState → ScriptState → Descriptor → Type 0
 IsToCommit (Ok (Some (command.Mkvg force name mib disks))) old new k = k ≡ new_group old.moment.device.sizes (asked_for name mib disks force new.last)
 IsToCommit (Ok (Some (command.ChvgQuorum on name))) old new k = IsSomeAnd old.session (λ core. k ≡ with_quorum on core.descriptor)
 IsToCommit (Ok (Some (command.ChvgBig name))) old new k = IsSomeAnd old.session (λ core. k ≡ as_big core.descriptor)
+IsToCommit (Ok (Some (command.Reducevg name disks))) old new k = IsSomeAnd old.session (λ core. IsReducedBy disks core.descriptor k)
 IsToCommit (Ok (Some (command.Mklv name copies mode policy group lps))) old new k = (core : Core) × (mid : State) × WasDrained old core mid × IsWith (wanted name copies mode policy lps) mid.core k
 IsToCommit (Ok (Some (command.Rmlv name))) old new k = IsSomeAnd old.session (λ core. (lv : ℕ) × IsNumberOf core.descriptor.lvs name lv × (k ≡ without_volume core.descriptor lv))
 IsToCommit (Ok (Some (command.Mklvcopy name copies))) old new k = (core : Core) × (mid : State) × WasDrained old core mid × ((lv : ℕ) × IsNumberOf core.descriptor.lvs name lv × IsWithMore lv copies mid.core k)
@@ -95,6 +97,7 @@ is_group_command (command.Mkvg force name mib disks) = true
 is_group_command (command.Varyon name) = true
 is_group_command (command.ChvgQuorum on name) = true
 is_group_command (command.ChvgBig name) = true
+is_group_command (command.Reducevg name disks) = true
 is_group_command (command.Mklv name copies mode policy group lps) = true
 is_group_command (command.Rmlv name) = true
 is_group_command (command.Mklvcopy name copies) = true

@@ -1,6 +1,14 @@
+pub mod GroupLines
 pub mod HolderVariants
+pub mod Line
 pub mod Lines
+pub mod MoveLines
+pub mod Quiesce
+pub mod RangeLines
+pub mod RangeLinesWaiting
+pub mod RefusalVariants
 pub mod ReplyVariants
+pub mod Resync
 pub mod Texts
 pub mod Tie
-pub mod GroupLines
+pub mod VolumeLines

@@ -33,11 +33,11 @@ use Rattle.lvm_session.specs.State.{State, is_there}
 use Rattle.lvm_change.specs.Parting.{PartsWith}
 use Rattle.lvm_change.proofs.PartingLemmas.{parts_group, parts_stamp, parts_committed, parts_idle, parts_loses, parts_there}
 use Rattle.lvm_turnover.specs.declared.change.Change.{Change}
-use Rattle.lvm_change_laws.specs.Rule.{members_among, staying}
+use Rattle.lvm_change_laws.specs.Rule.{members_among, staying, unspared}
 use Rattle.lvm_change_laws.proofs.RuleLemmas.{are_two, member_next, was_member}
 use Rattle.lvm_core.specs.Committing.{is_in}
 use Rattle.lvm_turnover.specs.Turning.{MayTurnSession, after_turn, disks_leaving, unreached}
-use Rattle.lvm_turnover.proofs.OutLemmas.{count_same, count_staying, said_in_row, was_inside}
+use Rattle.lvm_turnover.proofs.OutLemmas.{HasAsMany, count_same, count_staying, count_unspared, had_as_many, said_in_row}
 
 module _ (c : Change) (s : State) (may : MayTurnSession c s) where
   abbrev pub next : Descriptor
@@ -59,8 +59,8 @@ module _ (c : Change) (s : State) (may : MayTurnSession c s) where
   pub same_volumes : next.lvs ≡ was.lvs
   same_volumes = ap (λ (g : Descriptor). g.lvs) may.change.differs
 
-  pub still_inside : (row : PvRow) → Contains next.pvs row → Contains was.pvs row
-  still_inside row inside = was_inside leaves was.pvs row (subst (λ (rows : List PvRow). Contains rows row) (ap (λ (g : Descriptor). g.pvs) may.change.differs) inside)
+  pub still_inside : (row : PvRow) → Contains next.pvs row → HasAsMany was.pvs row
+  still_inside row inside = had_as_many leaves was.pvs next.pvs may.change.members row inside
 
   pub next_member : (e : ℕ) → is_member next e ≡ (is_member was e && not (leaves e))
   next_member e = member_next leaves was next (is_there s.core) may.change e
@@ -185,12 +185,14 @@ module _ (c : Change) (s : State) (may : MayTurnSession c s) (begun : Stored) (b
   begun_many =
       let one : many_there begun ≡ count_by (λ (row : PvRow). not (calls_missing begun.wanted row.disk)) goal.pvs = ap (λ (g : Descriptor). count_by (λ (row : PvRow). not (calls_missing begun.wanted row.disk)) g.pvs) begun_group in
       let two = count_same (λ (row : PvRow). not (calls_missing begun.wanted row.disk)) (λ (row : PvRow). not (calls_missing s.core.status.wanted row.disk)) goal.pvs said in
-      let rows : count_by (λ (row : PvRow). not (calls_missing s.core.status.wanted row.disk)) goal.pvs ≡ count_by (λ (row : PvRow). not (calls_missing s.core.status.wanted row.disk)) (staying (is_in (disks_leaving c.leaving)) had.pvs) =
-      ap (λ (g : Descriptor). count_by (λ (row : PvRow). not (calls_missing s.core.status.wanted row.disk)) g.pvs) may.change.differs in
-      let few = count_staying (λ (row : PvRow). not (calls_missing s.core.status.wanted row.disk)) (is_in (disks_leaving c.leaving)) had.pvs in
+      let rows : count_by (λ (row : PvRow). not (calls_missing s.core.status.wanted row.disk)) (unspared goal.pvs) ≡ count_by (λ (row : PvRow). not (calls_missing s.core.status.wanted row.disk)) (staying (is_in (disks_leaving c.leaving)) (unspared had.pvs)) =
+      ap (count_by (λ (row : PvRow). not (calls_missing s.core.status.wanted row.disk))) may.change.members in
+      let few = count_staying (λ (row : PvRow). not (calls_missing s.core.status.wanted row.disk)) (is_in (disks_leaving c.leaving)) (unspared had.pvs) in
+      let all = count_unspared (λ (disk : ℕ). not (calls_missing s.core.status.wanted disk)) had.pvs in
+      let left = count_unspared (λ (disk : ℕ). not (calls_missing s.core.status.wanted disk)) goal.pvs in
       let own : count_by (λ (row : PvRow). not (calls_missing s.core.status.wanted row.disk)) had.pvs ≡ many_there s.core.status =
       ap (λ (g : Descriptor). count_by (λ (row : PvRow). not (calls_missing s.core.status.wanted row.disk)) g.pvs) may.commit.settle.own in
-      omega (arith, one, two, rows, few, own)
+      omega (arith, one, two, rows, few, all, left, own)
     where
       said : (row : PvRow) → IsOneOf goal.pvs row → not (calls_missing begun.wanted row.disk) ≡ not (calls_missing s.core.status.wanted row.disk)
       said row one = ap not (begun_missing row.disk ∙ ap (λ (b : Bool). b && calls_missing s.core.status.wanted row.disk) (one_any (λ (r : PvRow). r.disk == row.disk) goal.pvs row one (same_itself row.disk)))

@@ -1,5 +1,5 @@
 -- The session without a member that leaves: rows of those that stay, and notes.
-use Rattle.std.proofs.Common.{◌≡◌, inl, inr, ℕ, zero, suc, ◌+◌, ◌<◌, ◌≤◌, count_by, Bool, true, false, ◌&&◌, ◌||◌, not, List, [], ◌∷◌, length, Option, Some, None, refl, sym, ◌∙◌, ap, arith}
+use Rattle.std.proofs.Common.{◌≡◌, inl, inr, ℕ, zero, suc, ◌+◌, ◌<◌, ◌≤◌, count_by, Bool, true, false, ◌&&◌, ◌||◌, not, List, [], ◌∷◌, length, Option, Some, None, refl, sym, ◌∙◌, ap, subst, arith}
 use Rattle.std.specs.Prelude.{◌==◌, if◌then◌else◌, filter, find, is_some, option_and_then, Contains, slice_index_or}
 use Rattle.std.specs.List.{list_any}
 use Rattle.std.proofs.lemmas.Bool.{eqb-true, false≢true}
@@ -16,7 +16,8 @@ use Rattle.lvm_mwc.specs.Entries.{AreEntries}
 use Rattle.lvm_mwc.specs.Notes.{is_of_disk}
 use Rattle.lvm_commit.proofs.AmongLemmas.{contains}
 use Rattle.lvm_core.specs.Committing.{is_in}
-use Rattle.lvm_change_laws.specs.Rule.{staying}
+use Rattle.lvm_change_laws.specs.Rule.{staying, unspared}
+use Rattle.lvm_change_laws.proofs.UnsparedLemmas.{unspared_row}
 use Rattle.lvm_turnover.specs.declared.change.Leaving.{Leaving}
 use Rattle.lvm_turnover.specs.Turning.{cache_after, disks_leaving}
 
@@ -30,9 +31,27 @@ one_in (y ∷ ys) x (suc k) few is = inr (one_in ys x k (omega (arith, few)) is)
 pub one_of : {X : Type 0} (xs : List X) (x : X) → Contains xs x → IsOneOf xs x
 one_of xs x (k, few, is) = one_in xs x k few is
 
--- a member that stays was one
-pub was_inside : (leaves : Disks) (rows : List PvRow) (row : PvRow) → Contains (staying leaves rows) row → Contains rows row
-was_inside leaves rows row inside = contains rows row (filter_one (λ (r : PvRow). not (leaves r.disk)) rows row (one_of (staying leaves rows) row inside)).0
+-- a member that was there before has as many partitions, whether it is a spare or not
+pub record HasAsMany (rows : List PvRow) (row : PvRow) : Type 0 where
+  pub was : PvRow
+  pub inside : Contains rows was
+  pub same : unspared_row was ≡ unspared_row row
+
+one_unspared : (rows : List PvRow) (row : PvRow) → IsOneOf rows row → IsOneOf (unspared rows) (unspared_row row)
+one_unspared [] row one = absurd one
+one_unspared (x ∷ xs) row (inl is) = inl (ap unspared_row is)
+one_unspared (x ∷ xs) row (inr one) = inr (one_unspared xs row one)
+
+one_spared : (rows : List PvRow) (row : PvRow) → IsOneOf (unspared rows) row → (was : PvRow) × IsOneOf rows was × (unspared_row was ≡ row)
+one_spared [] row one = absurd one
+one_spared (x ∷ xs) row (inl is) = (x, inl refl, sym is)
+one_spared (x ∷ xs) row (inr one) = let it = one_spared xs row one in (it.0, inr it.1, it.2)
+
+pub had_as_many : (leaves : Disks) (old next : List PvRow) → unspared next ≡ staying leaves (unspared old) → (row : PvRow) → Contains next row → HasAsMany old row
+had_as_many leaves old next same row inside =
+    let stays : IsOneOf (staying leaves (unspared old)) (unspared_row row) = subst (λ (rows : List PvRow). IsOneOf rows (unspared_row row)) same (one_unspared next row (one_of next row inside)) in
+    let was = one_spared old (unspared_row row) (filter_one (λ (r : PvRow). not (leaves r.disk)) (unspared old) (unspared_row row) stays).0 in
+    record { was = was.0; inside = contains old was.0 was.1; same = was.2 }
 
 pub is_inside : (rows : List PvRow) (row : PvRow) → Contains rows row → list_any (λ (r : PvRow). r.disk == row.disk) rows ≡ true
 is_inside rows row inside = one_any (λ (r : PvRow). r.disk == row.disk) rows row (one_of rows row inside) (same_itself row.disk)
@@ -114,6 +133,12 @@ count_staying p leaves (row ∷ rows) = by (leaves row.disk) (count_staying p le
     by : (goes : Bool) → count_by p (staying leaves rows) ≤ count_by p rows → count_by p (if not goes then row ∷ staying leaves rows else staying leaves rows) ≤ count_by p (row ∷ rows)
     by true rest = omega (arith, rest, count_cons p row rows)
     by false rest = omega (arith, rest, count_cons p row rows, count_cons p row (staying leaves rows))
+
+pub count_unspared : (p : ℕ → Bool) (rows : List PvRow) → count_by (λ (row : PvRow). p row.disk) (unspared rows) ≡ count_by (λ (row : PvRow). p row.disk) rows
+count_unspared p [] = refl
+count_unspared p (row ∷ rows) =
+    let rest = count_unspared p rows in
+    omega (arith, rest, count_cons (λ (r : PvRow). p r.disk) row rows, count_cons (λ (r : PvRow). p r.disk) (unspared_row row) (unspared rows))
 
 -- ---- what a status says of a disk
 

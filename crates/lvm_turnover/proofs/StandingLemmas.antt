@@ -25,7 +25,8 @@ use Rattle.lvm_core.specs.Sound.{IsFittingAtRest, IsSoundAtRest}
 use Rattle.lvm_core.specs.Settled.{IsSettled}
 use Rattle.lvm_core.specs.Committing.{with_one_out}
 use Rattle.lvm_core.proofs.SoundLemmas.Own.{fits_with, fits_pool, one_out_long, sound_ready, sound_dark, sound_stuck}
-use Rattle.lvm_turnover.proofs.OutLemmas.{is_inside}
+use Rattle.lvm_turnover.proofs.OutLemmas.{HasAsMany, is_inside}
+use Rattle.lvm_change_laws.proofs.UnsparedLemmas.{unspared_row}
 
 -- The descriptor's members are of the session's, the status is one of it, by which no more of them are there, and the cache has the notes of just these.
 pub record Fits (old : State) (d : Descriptor) (u : Stored) (cache : Cached) (sizes : List ℕ) : Type 0 where
@@ -34,7 +35,7 @@ pub record Fits (old : State) (d : Descriptor) (u : Stored) (cache : Cached) (si
   pub id : u.wanted.id ≡ d.id
   pub rows : HasItsRows d u.wanted
   pub forgotten : IsForgotten u
-  pub inside : (row : PvRow) → Contains d.pvs row → Contains old.core.descriptor.pvs row
+  pub inside : (row : PvRow) → Contains d.pvs row → HasAsMany old.core.descriptor.pvs row
   pub mib : d.mib ≡ old.core.descriptor.mib
   pub fewer : (e : ℕ) → is_member d e ≡ true → calls_missing u.wanted e ≡ false → calls_missing old.core.status.wanted e ≡ false
   pub entries : AreEntries cache.entries
@@ -67,8 +68,16 @@ module _ (old : State) (d : Descriptor) (u : Stored) (homes : Homes) (cache : Ca
 
   placed : ArePlaced new.sizes d u.wanted
   placed row inside there =
-      let its = sound.placed row (fits.inside row inside) (fits.fewer row.disk (is_inside d.pvs row inside) there) in
+      let had = fits.inside row inside in
+      let same_disk : had.was.disk ≡ row.disk = ap (λ (r : PvRow). r.disk) had.same in
+      let its = same_placed had.was row had.same (sound.placed had.was had.inside (ap (calls_missing old.core.status.wanted) same_disk ∙ fits.fewer row.disk (is_inside d.pvs row inside) there)) in
       subst (λ (sizes : List ℕ). IsPlaced sizes d.mib row) (sym fits.same) (subst (λ (mib : ℕ). IsPlaced old.device.sizes mib row) (sym fits.mib) its)
+    where
+      -- it is placed whether it is a spare or not
+      same_placed : (a b : PvRow) → unspared_row a ≡ unspared_row b → IsPlaced old.device.sizes old.core.descriptor.mib a → IsPlaced old.device.sizes old.core.descriptor.mib b
+      same_placed a b same is =
+          let row : IsPlaced old.device.sizes old.core.descriptor.mib (unspared_row b) = subst (IsPlaced old.device.sizes old.core.descriptor.mib) same (record { there = is.there; within = is.within }) in
+          record { there = row.there; within = row.within }
 
   lit : is_dark old.core.power ≡ false
   lit = ap is_dark settled_is.power
@@ -103,7 +112,7 @@ module _ (old : State) (d : Descriptor) (u : Stored) (homes : Homes) (cache : Ca
 
 -- a status that only lost members since one that fits, fits
 pub fits_by :
-    (old : State) (d : Descriptor) (first last : Stored) (cache : Cached) (from to : Device) → IsValid d → ((row : PvRow) → Contains d.pvs row → Contains old.core.descriptor.pvs row) → d.mib ≡ old.core.descriptor.mib → first.group ≡ record d { lvs = [] }
+    (old : State) (d : Descriptor) (first last : Stored) (cache : Cached) (from to : Device) → IsValid d → ((row : PvRow) → Contains d.pvs row → HasAsMany old.core.descriptor.pvs row) → d.mib ≡ old.core.descriptor.mib → first.group ≡ record d { lvs = [] }
     → first.wanted.id ≡ d.id → HasItsRows d first.wanted → ((e : ℕ) → is_member d e ≡ true → calls_missing old.core.status.wanted e ≡ true → calls_missing first.wanted e ≡ true) → IsForgotten last → OnlyLoses first last from to
     → AreEntries cache.entries → ((disk : ℕ) → has_disk cache disk ≡ is_member d disk) → ((disk : ℕ) → flight_on cache disk ≡ None) → (sizes : List ℕ) → sizes ≡ old.device.sizes → Fits old d last cache sizes
 fits_by old d first last cache from to valid inside mib group id rows missing forgotten loses entries notes still sizes same = record {

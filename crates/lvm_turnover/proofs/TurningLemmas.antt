@@ -37,8 +37,7 @@ use Rattle.lvm_core.proofs.SoundLemmas.Dark.{dark_is}
 use Rattle.lvm_core.proofs.SoundLemmas.Own.{SameSizes, one_out_long}
 use Rattle.lvm_core.proofs.SettlingLemmas.{holds_session, may_commit_now}
 use Rattle.lvm_core.proofs.CommittingLemmas.Settled.{there_is}
-use Rattle.lvm_change_laws.specs.Rule.{MayChange, MayChangeRule}
-use Rattle.lvm_change_laws.proofs.RuleLemmas.{rule_is_change}
+use Rattle.lvm_change_laws.specs.Rule.{MayChange, no_member}
 use Rattle.lvm_change.specs.Transition.{ComesBack, HasFewVotes, TransitionGives}
 use Rattle.lvm_change.specs.declared.turn.Transition.{Transition}
 use Rattle.lvm_change.specs.declared.turn.TransitionEnd.{TransitionEnd}
@@ -77,7 +76,7 @@ module _ (c : Change) (old : State) (may : MayTurnSession c old) (settled_is : I
   none_of d x homes = record { requests = settled_is.quiet.requests; copy = settled_is.quiet.copy }
 
   fits_still : (last : Stored) (m : Device) → OnlyLoses u last old.device m → IsForgotten last → m.sizes ≡ old.device.sizes → Fits old was last old.core.cache m.sizes
-  fits_still last m loses forgotten same = fits_by old was u last old.core.cache old.device m may.change.valid (λ row inside. inside) refl (sym may.commit.settle.own) (may.commit.settle.id ∙ ap (λ (g : Descriptor). g.id) (sym may.commit.settle.own))
+  fits_still last m loses forgotten same = fits_by old was u last old.core.cache old.device m may.change.valid (λ row inside. record { was = row; inside = inside; same = refl }) refl (sym may.commit.settle.own) (may.commit.settle.id ∙ ap (λ (g : Descriptor). g.id) (sym may.commit.settle.own))
       (λ e. may.commit.settle.rows e ∙ ap (λ (g : Descriptor). is_member g e) (sym may.commit.settle.own)) (λ e member is. is) forgotten loses sound.fitting.entries sound.fitting.notes may.still m.sizes same
 
   fits_stopped : (m : Device) → m.sizes ≡ old.device.sizes → Fits old was u old.core.cache m.sizes
@@ -318,8 +317,8 @@ may_turn_session c s sound settled_is spare ready change = record { ready = read
 
 -- ---- where no member leaves
 
-pub may_of : (c : Change) (s : State) → IsReady c → MayChangeRule s.core.descriptor c.next (is_there s.core) → MayChange (is_in (disks_leaving c.leaving)) s.core.descriptor c.next (is_there s.core)
-may_of c s ready rule = subst (λ (o : Option Leaving). MayChange (is_in (disks_leaving o)) s.core.descriptor c.next (is_there s.core)) (sym ready.stay) (rule_is_change s.core.descriptor c.next (is_there s.core) rule)
+pub may_of : (c : Change) (s : State) → IsReady c → MayChange no_member s.core.descriptor c.next (is_there s.core) → MayChange (is_in (disks_leaving c.leaving)) s.core.descriptor c.next (is_there s.core)
+may_of c s ready may = subst (λ (o : Option Leaving). MayChange (is_in (disks_leaving o)) s.core.descriptor c.next (is_there s.core)) (sym ready.stay) may
 
 pub ends_of : (c : Change) (patience : ℕ) (old new : State) (answer : Result (Unit {0}) CommitFault) → IsReady c → EndsFrom c.next patience old (state_after c.leaving old) new answer → ChangeEnds c.next patience old new answer
 ends_of c patience old new answer ready ends = subst (λ (o : Option Leaving). EndsFrom c.next patience old (state_after o old) new answer) ready.stay ends

@@ -7,7 +7,7 @@ ghost use Rattle.lvm_core.specs.State.{state_of};
 ghost use Rattle.lvm_core.specs.Committing.{is_in};
 ghost use Rattle.lvm_core.specs.Sound.{IsSoundAtRest};
 ghost use Rattle.lvm_core.specs.Settled.{IsSettled, HasSpareNumbers};
-ghost use Rattle.lvm_change_laws.specs.Rule.{MayChange, MayChangeRule};
+ghost use Rattle.lvm_change_laws.specs.Rule.{MayChange, no_member};
 ghost use Rattle.lvm_turnover.specs.Turning.{IsPrepared, IsMadeFor, IsReady, ShowsGone, disks_leaving, state_after};
 ghost use Rattle.lvm_turnover.specs.Changing.{IsNext, EndsFrom, ChangeEnds, LeavesWithin, ChangeLeaves};
 
@@ -102,7 +102,7 @@ pub fn make_change<S: Shelf>(
     requires settled { IsSettled driver.1 }
     requires numbers { HasSpareNumbers driver.1 }
     requires ready { IsReady change }
-    requires rule { MayChangeRule driver.1.descriptor change.next (is_there driver.1) }
+    requires may { MayChange no_member driver.1.descriptor change.next (is_there driver.1) }
     ensures ends { ChangeEnds change.next patience.old.left (state_of S.device driver) (state_of S.device result.0) result.1 }
     // whatever the answer
     ensures left { MarksLeft change.next driver.1.status result.0.1.status }

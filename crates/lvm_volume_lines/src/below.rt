@@ -10,3 +10,4 @@ pub mod split;
 pub mod stage;
 
 pub use lvm_range_lines::below::Post;
+pub use lvm_range_lines::below::volumes::GroupFault;

@@ -34,6 +34,8 @@ use Rattle.lvm_volume_lines.specs.passed.RefusalVariants as refusal
 use Rattle.lvm_volume_lines.specs.passed.ReplyVariants as reply
 use Rattle.lvm_volume_lines.proofs.passed.GroupLines.{clock_is_ahead}
 use Rattle.lvm_volume_lines.specs.Copies.{AddsCopies, BusyMklvcopy, BusyRmlvcopy, MklvcopyFails, NoGroupForMklvcopy, NoGroupForRmlvcopy, NoVolumeForMklvcopy, NoVolumeForRmlvcopy, RemovesCopies, RmlvcopyFails, UndrainedMklvcopy, UndrainedRmlvcopy}
+use Rattle.lvm_member_lines.specs.Reducing.{BusyReducevg, NoGroupForReducevg, NoMemoryForReducevg, ReducesGroup, ReducevgFails, UndrainedReducevg, reduce_refusal}
+use Rattle.lvm_line.proofs.CausesLemmas.Reducing.{known_reduce}
 use Rattle.lvm_volume_lines.specs.Changing.{BecomesBig, BusyChvgBig, BusyChvgQuorum, ChvgBigFails, ChvgQuorumFails, NoGroupForChvgBig, NoGroupForChvgQuorum, SwitchesQuorum, UndrainedChvgBig, UndrainedChvgQuorum, change_refusal}
 use Rattle.lvm_volume_lines.specs.passed.Members.{with_quorum}
 use Rattle.lvm_line.proofs.CausesLemmas.Changing.{known_big, known_change}
@@ -258,6 +260,13 @@ known log room (Ok (Some (command.ChvgBig name))) why old new between (Undrained
 known log room (Ok (Some (command.ChvgBig name))) why old new between (BecomesBig core left mid some mine drains done is) = absurd (cc (is))
 known log room (Ok (Some (command.ChvgBig name))) why old new between (ChvgBigFails core left mid reason some mine drains done is) =
     by_reply _ why (change_refusal reason) old new is (known_big (Ok (Some (command.ChvgBig name))) tt (λ d a b rose. rose) (λ a b more. more) reason old new core left mid done.left some drains done.gives done.leaves)
+known log room (Ok (Some (command.Reducevg name disks))) why old new between (NoGroupForReducevg none is) = by_reply _ why refusal.NoGroup old new is.0 (easy _ refusal.NoGroup old new tt (λ e. cc) (λ h t e. cc))
+known log room (Ok (Some (command.Reducevg name disks))) why old new between (NoMemoryForReducevg some is) = by_reply _ why refusal.Memory old new is.0 (easy _ refusal.Memory old new tt (λ e. cc) (λ h t e. cc))
+known log room (Ok (Some (command.Reducevg name disks))) why old new between (BusyReducevg mine busy is) = by_reply _ why refusal.Busy old new is.0 (easy _ refusal.Busy old new tt (λ e. cc) (λ h t e. cc))
+known log room (Ok (Some (command.Reducevg name disks))) why old new between (UndrainedReducevg core fault some mine ends) = undrained (Ok (Some (command.Reducevg name disks))) old new core tt between some why fault ends
+known log room (Ok (Some (command.Reducevg name disks))) why old new between (ReducesGroup core left mid some mine drains done is) = absurd (cc (is))
+known log room (Ok (Some (command.Reducevg name disks))) why old new between (ReducevgFails core left mid reason some mine drains done is) =
+    by_reply _ why (reduce_refusal reason) old new is (known_reduce name disks old new core left mid done.left some drains reason done.gives done.leaves)
 known log room (Ok (Some (command.Mklv name copies mode policy group lps))) why old new between (NoGroupForMklv none is) = by_reply _ why refusal.NoGroup old new is.0 (easy _ refusal.NoGroup old new tt (λ e. cc) (λ h t e. cc))
 known log room (Ok (Some (command.Mklv name copies mode policy group lps))) why old new between (BusyMklv on busy is) = by_reply _ why refusal.Busy old new is.0 (easy _ refusal.Busy old new tt (λ e. cc) (λ h t e. cc))
 known log room (Ok (Some (command.Mklv name copies mode policy group lps))) why old new between (UndrainedMklv core fault some on ends) = undrained (Ok (Some (command.Mklv name copies mode policy group lps))) old new core tt between some why fault ends

@@ -88,7 +88,7 @@ module _ (read : Result (Option Command) Misfit) (other : IsOther read) (failed 
     }
     known_so next (fault.WentOff have total) gives leaves = record {
       cause = has_by read (refusal.WentOff have total) old new other (let its : (2 * have ≤ total) × HasLostMember old new.moment.device.counts =
-          ⊎_elim (λ refused. absurd (not_off refused.1.0)) (λ broken. lost next have total broken.1 (counts_left true left old new leaves)) gives in (its.0, inl its.1));
+          ⊎_elim (λ refused. absurd (not_off refused.1.0)) (λ broken. lost next have total broken.1 (counts_left true left old new leaves)) gives in (its.0, inl (inl its.1)));
       off = λ is. none_left left old new leaves;
       unwritten = λ h t is. absurd (cc (is));
     }

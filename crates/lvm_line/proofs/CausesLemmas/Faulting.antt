@@ -62,7 +62,7 @@ module _ (read : Result (Option Command) Misfit) (old new : ScriptState) (core :
       let votes = off_votes ends.end ends.sound ends.fails.power_is in
       let few : 2 * have ≤ total = subst (λ (n : ℕ). 2 * have ≤ n) (sym ends.fails.total_is) (subst (λ (n : ℕ). 2 * n ≤ total_votes ends.end.core.descriptor) (sym ends.fails.have_is) votes.0) in
       let since = off_cause old new core ends.end between (goes_any ends.runs) ends.sound (ap (λ (d : Device). d.counts) ends.over.lit) have total some (few, votes.1) (ends.votes (ends.sound.off ends.fails.power_is)) in
-      has_by read (refusal.WentOff have total) old new other (since.0, inr (record { core = core; fault = commit.WentOff have total; on = some; ends = ends }, since.1))
+      has_by read (refusal.WentOff have total) old new other (since.0, inl (inr (record { core = core; fault = commit.WentOff have total; on = some; ends = ends }, since.1)))
   why_undrained commit.Stuck ends =
       has_by read refusal.Stuck old new other (stuck_cause old new core ends.end between (goes_any ends.runs) ends.sound (ap (λ (d : Device). d.counts) ends.over.lit) ends.left ends.fails ends.waited)
   why_undrained (commit.DiskFailed disk) ends = absurd ends.fails
@@ -127,7 +127,7 @@ module _ (read : Result (Option Command) Misfit) (other : IsOther read) (failed 
       unwritten = λ have total is. absurd (cc (is));
     }
     known_so (fault.WentOff have total) facts leaves = record {
-      cause = has_by read (refusal.WentOff have total) old new other (let its = lost have total left.core.status facts.0 (counts_left true left old new leaves) in (its.0, inl its.1));
+      cause = has_by read (refusal.WentOff have total) old new other (let its = lost have total left.core.status facts.0 (counts_left true left old new leaves) in (its.0, inl (inl its.1)));
       off = λ is. none_left left old new leaves;
       unwritten = λ h t is. absurd (cc (is));
     }

@@ -1,15 +1,16 @@
 -- Lines in which nothing failed.
-use Rattle.std.proofs.Common.{ℕ, List, Option, Some, None, Result, Ok, inl, inr, subst}
+use Rattle.std.proofs.Common.{ℕ, List, Option, Some, None, Result, Ok, inl, inr, ⊎_elim, subst}
 use Rattle.std.specs.Prelude.{IfSome}
 use Rattle.lvm_parse.specs.declared.command.Command.{Command}
 use Rattle.lvm_parse.specs.declared.command.Command.TheVariants as command
 use Rattle.lvm_parse.specs.declared.rest.Misfit.{Misfit}
+use Rattle.lvm_parse.specs.Grammar.{line_of}
 use Rattle.lvm_session.specs.State.{Core, state}
 use Rattle.lvm_volume_lines.specs.passed.Resync.{AnyFails}
 use Rattle.lvm_volume_lines.specs.passed.GroupLines.{Refusal, ScriptState}
 use Rattle.lvm_volume_lines.specs.passed.RefusalVariants as refusal
 use Rattle.lvm_volume_lines.specs.passed.KeepsEvents.{LostForFaults}
-use Rattle.lvm_line.specs.Causes.{CauseOf, HasCause, TransferHasFailed, HasFailedInSession, RangeLineCause, RoseOn, TurnCause, WereLost, disk_of}
+use Rattle.lvm_line.specs.Causes.{CauseOf, HasCause, LacksOnTheWay, TransferHasFailed, HasFailedInSession, RangeLineCause, RoseOn, TurnCause, WereLost, disk_of}
 use Rattle.lvm_line.specs.Complete.{CompleteLaw, HasLostVotes, IsByRule, IsOwn, NothingFailed, RuleLaw}
 use Rattle.lvm_line.proofs.CausesLemmas.Causing.{has_cause}
 
@@ -38,20 +39,20 @@ module _ (old new : ScriptState) where
     were_lost why (inl lost) = absurd (nothing.none.faults lost.disk lost.failed)
     were_lost why (inr undrained) = had_lost undrained.1
 
-    own_of : (why : Refusal) → CauseOf read why old new → IsOwn old why
+    own_of : (why : Refusal) → CauseOf read why old new → IsOwn read old why
     own_of refusal.Lost cause = on_none (disk_of read) cause
     own_of refusal.ReadFailed cause = on_none (disk_of read) cause
-    own_of (refusal.WentOff have total) cause = (cause.0, were_lost (refusal.WentOff have total) cause.1)
+    own_of (refusal.WentOff have total) cause = (cause.0, ⊎_elim (λ lost. inl (were_lost (refusal.WentOff have total) lost)) (λ lacks. inr lacks) cause.1)
     own_of refusal.Dark cause = nothing.none.cuts cause
     own_of refusal.Stuck cause = nothing.none.waits cause
     own_of (refusal.DiskFailed disk) cause = none_failed read nothing disk cause
     own_of (refusal.SyncFailed disk) cause = cause
     own_of other cause = tt
 
-    turn_own : (why : Refusal) → TurnCause why old new → IsOwn old why
+    turn_own : (why : Refusal) → TurnCause why old new → IsOwn read old why
     turn_own refusal.Lost cause = nothing.none.faults cause.0 cause.1
     turn_own refusal.ReadFailed cause = nothing.none.faults cause.0 cause.1
-    turn_own (refusal.WentOff have total) cause = (cause.0, had_lost cause.1)
+    turn_own (refusal.WentOff have total) cause = (cause.0, inl (had_lost cause.1))
     turn_own refusal.Dark cause = nothing.none.cuts cause
     turn_own refusal.Stuck cause = nothing.none.waits cause
     turn_own (refusal.DiskFailed disk) cause = cause
@@ -61,11 +62,11 @@ module _ (old new : ScriptState) where
         unseen cause.failed
     turn_own other cause = tt
 
-    range_own : (name : List ℕ) (why : Refusal) → RangeLineCause name why old new → IsOwn old why
+    range_own : (name : List ℕ) (why : Refusal) → RangeLineCause name why old new → IsOwn read old why
     range_own name (refusal.NoFresh lp) cause = tt
     range_own name why cause = turn_own why cause
 
-  is_own : (read : Result (Option Command) Misfit) → NothingFailed read old new → (why : Refusal) → HasCause read why old new → IsOwn old why
+  is_own : (read : Result (Option Command) Misfit) → NothingFailed read old new → (why : Refusal) → HasCause read why old new → IsOwn read old why
   is_own (Ok (Some (command.Rd name at count))) nothing why cause = range_own _ nothing name why cause
   is_own (Ok (Some (command.Wr name at count word))) nothing why cause = range_own _ nothing name why cause
   is_own (Ok (Some (command.Post name at count word))) nothing why cause = turn_own _ nothing why cause
@@ -80,15 +81,15 @@ pub lines_complete : CompleteLaw
 lines_complete log room line why old new it nothing = is_own old new _ nothing why (has_cause log room _ why old new it.between it.does)
 
 -- where the votes weren't lost
-by_rule : (old : ScriptState) (why : Refusal) → (HasLostVotes old → ⊥) → IsOwn old why → IsByRule why
-by_rule old refusal.Dark kept own = own
-by_rule old refusal.Stuck kept own = own
-by_rule old refusal.Lost kept own = own
-by_rule old refusal.ReadFailed kept own = own
-by_rule old (refusal.DiskFailed disk) kept own = own
-by_rule old (refusal.SyncFailed disk) kept own = own
-by_rule old (refusal.WentOff have total) kept own = kept own.1
-by_rule old other kept own = tt
+by_rule : (read : Result (Option Command) Misfit) (old : ScriptState) (why : Refusal) → (HasLostVotes old → ⊥) → ((have total : ℕ) → LacksOnTheWay read have total old → ⊥) → IsOwn read old why → IsByRule why
+by_rule read old refusal.Dark kept has own = own
+by_rule read old refusal.Stuck kept has own = own
+by_rule read old refusal.Lost kept has own = own
+by_rule read old refusal.ReadFailed kept has own = own
+by_rule read old (refusal.DiskFailed disk) kept has own = own
+by_rule read old (refusal.SyncFailed disk) kept has own = own
+by_rule read old (refusal.WentOff have total) kept has own = ⊎_elim kept (has have total) own.1
+by_rule read old other kept has own = tt
 
 pub lines_by_rule : RuleLaw
-lines_by_rule log room line why old new it nothing kept = by_rule old why kept (lines_complete log room line why old new it nothing)
+lines_by_rule log room line why old new it nothing kept has = by_rule (line_of line) old why kept has (lines_complete log room line why old new it nothing)

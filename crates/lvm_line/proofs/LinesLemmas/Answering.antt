@@ -3,13 +3,18 @@ use Rattle.std.proofs.Common.{◌≡◌, ℕ, Bool, List, Option, Some, Result, 
 use Rattle.lvm_parse.specs.declared.command.Command.{Command}
 use Rattle.lvm_parse.specs.declared.command.Command.TheVariants as command
 use Rattle.lvm_parse.specs.declared.rest.Misfit.{Misfit}
-use Rattle.lvm_parse.specs.Answering.{IsMkvgLine}
+use Rattle.lvm_parse.specs.Answering.{IsMkvgLine, IsReducevgLine}
 use Rattle.lvm_line.specs.Lines.{IsLeftToDo}
 
 -- a `mkvg` isn't
 pub mkvg_left : (read : Result (Option Command) Misfit) → IsMkvgLine read → IsLeftToDo read
 mkvg_left (Ok (Some (command.Mkvg force name mib disks))) is = tt
 mkvg_left read is = absurd is
+
+-- nor is a `reducevg`
+pub reducevg_left : (read : Result (Option Command) Misfit) → IsReducevgLine read → IsLeftToDo read
+reducevg_left (Ok (Some (command.Reducevg name disks))) is = tt
+reducevg_left read is = absurd is
 
 -- nor is a command that is none of these
 pub left_over : (c : Command) → ((volumes : Bool) (name : List ℕ) → c ≡ command.Lsvg volumes name → ⊥) → ((name : List ℕ) → c ≡ command.Lslv name → ⊥) → ((disk : ℕ) → c ≡ command.Lspv disk → ⊥)

@@ -7,11 +7,12 @@ use Rattle.lvm_parse.specs.declared.command.Command.{Command}
 use Rattle.lvm_parse.specs.declared.command.Command.TheVariants as command
 use Rattle.lvm_parse.specs.declared.rest.Misfit.{Misfit}
 use Rattle.lvm_parse.specs.Grammar.{line_of}
-use Rattle.lvm_parse.specs.Answering.{IsMkvgLine}
+use Rattle.lvm_parse.specs.Answering.{IsMkvgLine, IsReducevgLine}
 use Rattle.lvm_core.specs.declared.parts.Room.{Room}
 use Rattle.lvm_session.specs.State.{Core}
-use Rattle.lvm_volume_lines.specs.passed.GroupLines.{Aside, CommandEnds, EndsUnasked, LineGoesOn, Holder, InFull, IsAsked, IsBetween, IsBetweenStage, IsFittingStage, IsLeftBy, Reply, ScriptState, Shows, Stage, WithoutMemory, history_in, history_of, is_unheard, most_refusals, session_in, session_of, shelf_in, state_in, without_facts, DiskOfGroup, DiskShows, GroupShows, GroupThatIsOn, ListsGroup, ListsMember, ListsVolume, MkvgDoes, NoGroupForDisk, NoGroupForVolume, NoGroupToList, NoMemoryForLine, NoMkvgWhileOn, NoSuchMember, NoSuchVolume, OtherGroup, VolumeOfGroup, VolumeShows}
+use Rattle.lvm_volume_lines.specs.passed.GroupLines.{Aside, CommandEnds, EndsUnasked, LineGoesOn, Holder, InFull, IsAsked, IsBetween, IsBetweenStage, IsFittingStage, IsLeftBy, IsNotOn, Reply, ScriptState, Shows, Stage, WithoutMemory, history_in, history_of, is_unheard, most_refusals, session_in, session_of, shelf_in, state_in, without_facts, DiskOfGroup, DiskShows, GroupShows, GroupThatIsOn, ListsGroup, ListsMember, ListsVolume, MkvgDoes, NoGroupForDisk, NoGroupForVolume, NoGroupToList, NoMemoryForLine, NoMkvgWhileOn, NoSuchMember, NoSuchVolume, OtherGroup, VolumeOfGroup, VolumeShows}
 use Rattle.lvm_line.specs.Lines.{CommandDoes, CommandIsDone, LineDoes, IsLine, IsOrder, asked_after, role_of}
+use Rattle.lvm_member_lines.specs.Reducing.{NoGroupForReducevg, NoMemoryForReducevg, ReducevgDoes}
 use Rattle.lvm_volume_lines.specs.passed.HolderVariants as holder
 use Rattle.lvm_volume_lines.specs.passed.RefusalVariants as refusal
 use Rattle.lvm_volume_lines.specs.passed.ReplyVariants as reply
@@ -96,7 +97,7 @@ pub line_still :
 line_still log room line read answer old new is does one same before =
     line_read log room line read answer old new is does (same_goes log.run (role_of read) answer old new before.between one same) (λ no_order. ap (λ (s : ScriptState). s.moment.device.orders) same) before
 
--- a line for which no memory was found, while a group is on or none is
+-- a `mkvg` for which no memory was found, while a group is on or none is
 pub line_unread :
     (log : Log) (room : Room) (line : List ℕ) (answer : Reply) (old new : ScriptState) → IsMkvgLine (line_of line) → (IsSome old.session → answer ≡ reply.Refused refusal.GroupOn) → (old.session ≡ None → answer ≡ reply.Refused refusal.Memory) → IsAsked old new
     → Before log old → IsLine log room line answer old new
@@ -120,6 +121,29 @@ line_unread log room line answer old new mkvg on off asked before = record {
     of_mkvg : (read : Result (Option Command) Misfit) → IsMkvgLine read → LineDoes log room read old new answer
     of_mkvg (Ok (Some (command.Mkvg force name mib disks))) is = by_session force name mib disks old.session refl
     of_mkvg read is = absurd is
+
+-- so a `reducevg`
+pub reducevg_unread :
+    (log : Log) (room : Room) (line : List ℕ) (answer : Reply) (old new : ScriptState) → IsReducevgLine (line_of line) → (IsSome old.session → answer ≡ reply.Refused refusal.Memory) → (old.session ≡ None → answer ≡ reply.Refused refusal.NoGroup) → new ≡ old
+    → Before log old → IsLine log room line answer old new
+reducevg_unread log room line answer old new reducevg on off same before = line_still log room line (line_of line) answer old new refl (of_reducevg (line_of line) reducevg) (one old.session refl) same before
+  where
+    one : (session : Option Core) → old.session ≡ session → most_refusals answer ≤ 1
+    one None is = one_refused answer refusal.NoGroup (off is)
+    one (Some core) is = one_refused answer refusal.Memory (on (subst IsSome (sym is) refl))
+
+    by_session : (name disks : List ℕ) (session : Option Core) → old.session ≡ session → ReducevgDoes name disks old new answer
+    by_session name disks None is = NoGroupForReducevg (subst (IsNotOn name) (sym is) tt) (off is, same)
+    by_session name disks (Some core) is = let some : IsSome old.session = subst IsSome (sym is) refl in NoMemoryForReducevg some (on some, same)
+
+    of_reducevg : (read : Result (Option Command) Misfit) → IsReducevgLine read → LineDoes log room read old new answer
+    of_reducevg (Ok (Some (command.Reducevg name disks))) is = by_session name disks old.session refl
+    of_reducevg read is = absurd is
+
+-- the clock wasn't asked
+pub asked_never : (read : Result (Option Command) Misfit) (before : ℕ) → IsReducevgLine read → before ≡ asked_after read before
+asked_never (Ok (Some (command.Reducevg name disks))) before is = refl
+asked_never read before is = absurd is
 
 -- the clock was asked once more, as by a `mkvg`
 pub asked_once : (read : Result (Option Command) Misfit) (before after : ℕ) → IsMkvgLine read → after ≡ next_count before → after ≡ asked_after read before

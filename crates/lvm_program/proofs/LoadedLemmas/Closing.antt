@@ -4,9 +4,9 @@ use Rattle.lvm_kept.specs.Moments.{Moment}
 use Rattle.lvm_session.specs.declared.open.Power.TheVariants as power
 use Rattle.lvm_session.specs.Sound.{IsSound}
 use Rattle.lvm_session.specs.State.{Core, State, state}
-use Rattle.lvm_line.specs.passed.Tie.{LeavesSession}
-use Rattle.lvm_line.specs.passed.GroupLines.{IsBetween, IsClosed, ScriptState}
-use Rattle.lvm_line.proofs.passed.Tie.{path_shape}
+use Rattle.lvm_top.specs.passed.Tie.{LeavesSession}
+use Rattle.lvm_top.specs.passed.GroupLines.{IsBetween, IsClosed, ScriptState}
+use Rattle.lvm_top.proofs.passed.Tie.{path_shape}
 use Rattle.lvm_top.proofs.ScriptLemmas.Concluding.{Concluded, closed_concluded}
 
 -- what goes on isn't stuck that was on

@@ -17,7 +17,7 @@ use Rattle.lvm_session.specs.State.{Core, state}
 use Rattle.lvm_load.specs.declared.load.Load.{Load}
 use Rattle.lvm_load.specs.declared.serve.Synced.{Synced}
 use Rattle.lvm_load.specs.declared.workload.Woven.{Woven}
-use Rattle.lvm_line.specs.passed.ReplyVariants as reply
+use Rattle.lvm_top.specs.passed.ReplyVariants as reply
 use Rattle.lvm_top.specs.passed.HolderVariants as holder
 use Rattle.lvm_top.specs.passed.Lines.{IsLine, role_of}
 use Rattle.lvm_top.specs.passed.GroupLines.{Holder, IsAlone, IsBetween, IsStuck, IsTimely, Reply, ScriptState, Stage, StandsBy, history_in, history_of, moment_in, most_refusals, session_in, session_of, shelf_of, state_in, without_facts}

@@ -2,8 +2,8 @@
 use Rattle.std.proofs.Common.{◌≡◌, ◌≤◌, ◌+◌, ℕ, Bool, true, false, Option, Some, None, sym, ◌∙◌, arith}
 use Rattle.std.specs.Prelude.{is_some}
 use Rattle.lvm_load.specs.declared.workload.Woven.{Woven}
-use Rattle.lvm_line.specs.passed.GroupLines.{Refusal}
-use Rattle.lvm_line.specs.passed.ReplyVariants as reply
+use Rattle.lvm_top.specs.passed.GroupLines.{Refusal}
+use Rattle.lvm_top.specs.passed.ReplyVariants as reply
 use Rattle.lvm_top.specs.declared.script.Stop.{Stop}
 use Rattle.lvm_top.specs.declared.status.ExitStatus.{ExitStatus}
 use Rattle.lvm_top.specs.Script.{Passage, Stream}

@@ -22,10 +22,10 @@ use Rattle.lvm_parse.specs.Reading.{ends, operand, option, then_}
 use Rattle.lvm_core.specs.declared.parts.Room.{Room}
 use Rattle.lvm_core.specs.declared.refused.Cause.{Cause}
 use Rattle.lvm_session.specs.State.{Core}
-use Rattle.lvm_line.specs.Lines.{IsLine, LineDoes, asked_after}
-use Rattle.lvm_line.specs.passed.GroupLines.{IsLeftByCall, NoVaryonWhileOn, Reply, ScriptState, Varies, VaryonDoes, itself, log_with, outcome_of, patience_of_line}
-use Rattle.lvm_line.specs.passed.Quiesce.{RefusedAtOnce, StayedOut, VaryonOnceQuiet, WentQuiet}
-use Rattle.lvm_line.specs.passed.ReplyVariants as reply
+use Rattle.lvm_top.specs.passed.Line.{IsLine, LineDoes, asked_after}
+use Rattle.lvm_top.specs.passed.GroupLines.{IsLeftByCall, NoVaryonWhileOn, Reply, ScriptState, Varies, VaryonDoes, itself, log_with, outcome_of, patience_of_line}
+use Rattle.lvm_top.specs.passed.Quiesce.{RefusedAtOnce, StayedOut, VaryonOnceQuiet, WentQuiet}
+use Rattle.lvm_top.specs.passed.ReplyVariants as reply
 use Rattle.lvm_load.specs.Loading.{NoneHasBegun}
 use Rattle.lvm_program.specs.Loaded.{varyon_line}
 use Rattle.lvm_program.specs.Woven.{asked_woven}

@@ -21,12 +21,12 @@ use Rattle.lvm_load.specs.Ends.{HasWaited}
 use Rattle.lvm_load.specs.Landing.{AreWell, EntersWell}
 use Rattle.lvm_load.proofs.LandingLemmas.{requests_land_well, table_stays, totals_are_well}
 use Rattle.lvm_load.proofs.LeavingLemmas.{workloads_leave_open}
-use Rattle.lvm_line.specs.Lines.{role_of}
+use Rattle.lvm_top.specs.passed.Line.{role_of}
 use Rattle.lvm_top.specs.passed.ReplyVariants as reply
-use Rattle.lvm_line.specs.passed.GroupLines.{IsAtRest, IsBetween, IsClosed, IsOnBetween, IsRequesting, IsStuck, Reply, ScriptState}
+use Rattle.lvm_top.specs.passed.GroupLines.{IsAtRest, IsBetween, IsClosed, IsOnBetween, IsRequesting, IsStuck, Reply, ScriptState}
 use Rattle.lvm_top.specs.Run.{Run}
 use Rattle.lvm_top.specs.Script.{empty_log, entry_state}
-use Rattle.lvm_line.proofs.passed.Tie.{goes_any, path_frames}
+use Rattle.lvm_top.proofs.passed.Tie.{goes_any, path_frames}
 use Rattle.lvm_top.proofs.EndingLemmas.{each_turn}
 use Rattle.lvm_program.specs.Landing.{EndsLandedWell, HasLandedWell}
 use Rattle.lvm_program.specs.Woven.{Drawn, EndsWoven, GoesWoven, HasGroup, IsDrawn, IsMade, IsSized, NoGroup, NotMade, TurnsBehind, exit_from, mklv_line, mkvg_line}

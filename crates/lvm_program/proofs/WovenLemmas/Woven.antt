@@ -24,7 +24,7 @@ use Rattle.lvm_posts.specs.declared.posts.Post.{Post}
 use Rattle.lvm_session.specs.declared.open.Power.TheVariants as power
 use Rattle.lvm_session.specs.Judging.{is_moving}
 use Rattle.lvm_session.specs.State.{Core, State, state}
-use Rattle.lvm_line.proofs.passed.RangeLines.{none_moves}
+use Rattle.lvm_top.proofs.passed.RangeLines.{none_moves}
 use Rattle.lvm_load.specs.declared.totals.Totals.{Totals}
 use Rattle.lvm_load.specs.declared.workload.Workload.{Workload}
 use Rattle.lvm_load.specs.declared.workload.Woven.{Woven}
@@ -34,17 +34,17 @@ use Rattle.lvm_load.specs.Weaving.{Weaves, Weaving}
 use Rattle.lvm_load.proofs.FactsLemmas.{Gains, begun_still, gains_none, gains_then, turn_gains, weave_gains}
 use Rattle.lvm_top.specs.passed.HolderVariants as holder
 use Rattle.lvm_top.specs.passed.Tie.{RunsOn}
+use Rattle.lvm_top.specs.passed.RefusalVariants as refusal
 use Rattle.lvm_top.specs.passed.ReplyVariants as reply
 use Rattle.lvm_top.specs.passed.Lines.{IsLine, asked_after, role_of}
 use Rattle.lvm_top.specs.passed.GroupLines.{Holder, IsBetween, IsBetweenStage, IsOfKind, IsAlone, IsStuck, IsTimely, OfRequests, Reply, Stage, StandsAlone, StandsBy, ScriptState, history_in, history_of, moment_in, most_refusals, session_in, session_of, shelf_of, state_in, without_facts}
 use Rattle.lvm_top.specs.declared.run.Ended.{Ended}
 use Rattle.lvm_top.specs.declared.status.ExitStatus.{ExitStatus}
 use Rattle.lvm_top.specs.declared.status.ExitStatus.TheVariants as ended
-use Rattle.lvm_top.proofs.passed.Tie.{path_frames}
-use Rattle.lvm_line.proofs.passed.Tie.{goes_any}
+use Rattle.lvm_top.proofs.passed.Tie.{path_frames, goes_any}
 use Rattle.lvm_program.specs.Program.{PromisesWovenBlank}
-use Rattle.lvm_line.specs.Lines.{IsOrder}
-use Rattle.lvm_program.specs.Heeding.{IsNoOrder, IsTroubled}
+use Rattle.lvm_top.specs.passed.Line.{IsOrder, LacksOnTheWay}
+use Rattle.lvm_program.specs.Heeding.{IsNoOrder, IsShortOfVotes, IsTroubled}
 use Rattle.lvm_program.proofs.HeedingLemmas.{closed_orders, concludes_orders, device_path, untroubled}
 use Rattle.lvm_top.specs.Laws.{MayRun}
 use Rattle.lvm_top.specs.Plain.{FindsOneGroup}
@@ -208,13 +208,13 @@ module _ (woven : Woven) (requests : ℕ) (status : ExitStatus) (before : Option
 
   -- it was written whole
   module _ (first : List ℕ) (mid : Option (List ℕ)) (counted : ℕ) (refused : first ≡ refusal_text woven) (whole : WhereTold before mid (λ a b. b ≡ a ++ first)) (well : counted ≡ faults) where
-    refusal : WhereTold before mid (λ a b. b ≡ a ++ refusal_text woven)
-    refusal = subst (λ (t : List ℕ). WhereTold before mid (λ a b. b ≡ a ++ t)) refused whole
+    told_refusal : WhereTold before mid (λ a b. b ≡ a ++ refusal_text woven)
+    told_refusal = subst (λ (t : List ℕ). WhereTold before mid (λ a b. b ≡ a ++ t)) refused whole
 
     -- a text behind it
     behind : (text : List ℕ) (after : Option (List ℕ)) → WhereTold mid after (λ a b. b ≡ a ++ text) → WhereTold before after (λ a b. b ≡ a ++ (refusal_text woven ++ text))
     behind text after more = told_on before mid after (λ a b. b ≡ a ++ refusal_text woven) (λ a b. b ≡ a ++ text) (λ a b. b ≡ a ++ (refusal_text woven ++ text))
-        (λ a b c one two. two ∙ ap (λ (t : List ℕ). t ++ text) one ∙ append_assoc a (refusal_text woven) text) refusal more
+        (λ a b c one two. two ∙ ap (λ (t : List ℕ). t ++ text) one ∙ append_assoc a (refusal_text woven) text) told_refusal more
 
     -- and no memory was found for more
     pub told_first : status ≡ status_woven woven requests (Some ended.Memory) → Tells mid counted
@@ -225,7 +225,7 @@ module _ (woven : Woven) (requests : ℕ) (status : ExitStatus) (before : Option
       front = refusal_text woven;
       rest = totals_text woven.totals;
       split = refl;
-      written = refusal;
+      written = told_refusal;
       whole = λ e. absurd (cc e);
       memory = λ e. refl;
       sink = λ e. absurd (cc e);
@@ -415,6 +415,14 @@ module _ (disks mib : ℕ) (load : Workload) (r : Run) (ready : IsReady r.entry)
 -- ---- a shelf that heeds orders alone
 
 -- the run orders nothing
+-- a line that lacks no votes on its way isn't answered so
+lacks_none : (read : Result (Option Command) Misfit) (answer : Reply) (old : ScriptState) → ((have total : ℕ) → LacksOnTheWay read have total old → ⊥) → IsShortOfVotes read answer old → ⊥
+lacks_none read (reply.Refused (refusal.WentOff have total)) old has short = has have total short
+lacks_none read other old has short = short
+
+has_its_votes : {read parsed : Result (Option Command) Misfit} (answer : Reply) (old : ScriptState) → read ≡ parsed → ((have total : ℕ) → LacksOnTheWay parsed have total old → ⊥) → IsShortOfVotes read answer old → ⊥
+has_its_votes {parsed = parsed} answer old is has short = lacks_none parsed answer old has (subst (λ (read : Result (Option Command) Misfit). IsShortOfVotes read answer old) is short)
+
 module _ (log : Log) (room : Room) (disks mib : ℕ) (sized : IsSized disks mib) where
   no_group_order : IsNoOrder (mkvg_line disks)
   no_group_order order = subst IsOrder (group_reads disks sized.0 sized.1) order
@@ -428,8 +436,8 @@ module _ (log : Log) (room : Room) (disks mib : ℕ) (sized : IsSized disks mib)
 
   -- its lines aren't refused for what the shelf did
   made_untroubled : (first : ScriptState) (answer : Reply) (last : ScriptState) → NothingCounted last.moment.device.counts → IsMade log room (mkvg_line disks) (mklv_line disks mib) first answer last → IsTroubled answer → ⊥
-  made_untroubled first answer last none (NoGroup not it) = untroubled log room (mkvg_line disks) first last none answer it
-  made_untroubled first answer last none (HasGroup mid makes it) = untroubled log room (mklv_line disks mib) mid last none answer it
+  made_untroubled first answer last none (NoGroup not it) troubled = has_its_votes answer first (group_reads disks sized.0 sized.1) (λ have total it. it) (untroubled log room (mkvg_line disks) first last none answer it troubled)
+  made_untroubled first answer last none (HasGroup mid makes it) troubled = has_its_votes answer mid (volume_reads disks mib sized) (λ have total it. it) (untroubled log room (mklv_line disks mib) mid last none answer it troubled)
 
 ends_orders : (blocks : ℕ) (load : Workload) (answer : Reply) (run : ℕ) (end : Moment) (on : Option Core) (exit : Exit) → EndsWoven blocks load answer run end on exit → exit.moment.device.orders ≡ end.device.orders
 ends_orders blocks load answer run end on exit (NotMade not it) = concludes_orders run end exit.moment on it.concludes

@@ -1,7 +1,7 @@
 -- Passed on from `lvm_group_lines`.
 pub use Rattle.lvm_group_lines.proofs.Coming.{clock_is_ahead}
 pub use Rattle.lvm_group_lines.proofs.EndsLemmas.{one_refused, refused_ends}
-pub use Rattle.lvm_group_lines.proofs.FactsLemmas.{Bears, bears_cut, landed_bears, open_more}
+pub use Rattle.lvm_group_lines.proofs.FactsLemmas.{Bears, bears_cut, bears_given_up, landed_bears, open_more}
 pub use Rattle.lvm_group_lines.proofs.Listing.{there}
 pub use Rattle.lvm_group_lines.proofs.LightingLemmas.{ready_is_lit, still_leaves_descriptors}
 pub use Rattle.lvm_group_lines.proofs.MomentsLemmas.Going.{asked_goes, relit_path, same_goes, was_session}

@@ -288,6 +288,50 @@ fn a_change_takes_one_of_its_options(rt: HostRuntime) {
 }
 
 #[test]
+fn disks_that_leave_are_spelled(rt: HostRuntime) {
+    let name = name(&rt, b"datavg");
+    spells(
+        &rt,
+        b"reducevg datavg hdisk0",
+        Command::Reducevg {
+            name,
+            disks: disks(&rt, &[0]),
+        },
+    );
+    spells(
+        &rt,
+        b" reducevg  datavg  hdisk127  hdisk0  hdisk3 ",
+        Command::Reducevg {
+            name,
+            disks: disks(&rt, &[127, 0, 3]),
+        },
+    );
+}
+
+// Lines by which disks would leave, and the column at which each isn't in the language.
+static UNREDUCED: [(&[u8], u32); 12] = [
+    (b"reducevg", 9),
+    (b"reducevg datavg", 16),
+    (b"reducevg datavg ", 17),
+    (b"reducevg hdisk0", 10),
+    (b"reducevg hdisk0 datavg", 10),
+    (b"reducevg datavg hdisk128", 17),
+    (b"reducevg datavg lv00", 17),
+    (b"reducevg datavg hdisk0 hdisk0", 24),
+    (b"reducevg datavg hdisk0 hdisk1 hdisk0", 31),
+    (b"reducevg datavg hdisk0 datavg", 24),
+    (b"reducevg -d datavg hdisk0", 10),
+    (b"reducevg datavg -f hdisk0", 17),
+];
+
+#[test]
+fn disks_that_leave_are_all_different(rt: HostRuntime) {
+    for (line, column) in &UNREDUCED {
+        refused(&rt, line, *column);
+    }
+}
+
+#[test]
 fn moves_are_spelled(rt: HostRuntime) {
     spells(
         &rt,

@@ -41,6 +41,7 @@ use Rattle.lvm_top.proofs.StandingLemmas.Volumes.{mklv_finds, rmlv_finds}
 use Rattle.lvm_top.proofs.StandingLemmas.Closing.{varyoff_nothing}
 use Rattle.lvm_top.proofs.StandingLemmas.Copying.{mklvcopy_finds, rmlvcopy_finds}
 use Rattle.lvm_top.proofs.StandingLemmas.Splitting.{splitlvcopy_finds}
+use Rattle.lvm_top.proofs.StandingLemmas.Reducing.{reducevg_finds}
 use Rattle.lvm_top.proofs.StandingLemmas.Changing.{chvg_big_finds, chvg_quorum_finds}
 use Rattle.lvm_top.proofs.StandingLemmas.Moving.{migratepv_finds}
 use Rattle.lvm_raw.specs.Raw.{log_with as log_of}
@@ -186,6 +187,7 @@ module _ (log : Log) (room : Room) (line : List ℕ) (answer : Reply) (old new :
   by_reading (Ok (Some (command.Lsvg volumes name))) is stood may does id k it = inl (same_state log old new answer does.1 id k it)
   by_reading (Ok (Some (command.ChvgQuorum on name))) is stood may does id k it = chvg_quorum_finds log.run old new between named stood answer on name does id k it
   by_reading (Ok (Some (command.ChvgBig name))) is stood may does id k it = chvg_big_finds log.run old new between named stood answer name does id k it
+  by_reading (Ok (Some (command.Reducevg name disks))) is stood may does id k it = reducevg_finds log.run old new between named stood answer name disks does id k it
   by_reading (Ok (Some (command.Mklv name copies mode policy group lps))) is stood may does id k it = mklv_finds log.run old new between named stood answer name copies mode policy group lps does id k it
   by_reading (Ok (Some (command.Rmlv name))) is stood may does id k it = rmlv_finds log.run old new between named stood answer name does id k it
   by_reading (Ok (Some (command.Mklvcopy name copies))) is stood may does id k it = mklvcopy_finds log.run old new between named stood answer name copies does id k it

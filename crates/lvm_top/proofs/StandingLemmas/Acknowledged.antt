@@ -39,6 +39,8 @@ use Rattle.lvm_top.specs.Standing.{IsToCommit, MayMoveCopies, StandsForMoves, St
 use Rattle.lvm_top.proofs.StandingLemmas.Volumes.{held_mid}
 use Rattle.lvm_top.proofs.StandingLemmas.Copying.{fewer_id, more_id}
 use Rattle.lvm_top.proofs.StandingLemmas.Splitting.{split_id}
+use Rattle.lvm_line.specs.passed.MemberLines.{BusyReducevg, IsReducedBy, NoGroupForReducevg, NoMemoryForReducevg, ReducesGroup, ReducevgFails, UndrainedReducevg}
+use Rattle.lvm_top.proofs.StandingLemmas.Reducing.{reduced_id}
 use Rattle.lvm_top.proofs.StandingLemmas.Changing.{big_id}
 use Rattle.lvm_top.proofs.StandingLemmas.Moving.{empty_only, end_id, only_end, own_moved, session_on}
 use Rattle.lvm_line.specs.passed.MoveLines.{MigratepvDoes, MoveFault, MovesCopies, NoGroupForMoves, NotAskedForMoves, NothingMoves, move_reply}
@@ -171,6 +173,19 @@ module _ (log : Log) (room : Room) (old new : ScriptState) (between : IsBetween 
         ap (λ (d : Descriptor). d.id) (told_and old.session (λ c. k ≡ as_big c.descriptor) core some is) ∙ sym (ap (λ (d : Descriptor). d.id) (path_frames drains.runs).keeps.descriptor) ∙ sym (ap (λ (c : Core). c.descriptor.id) (done.leaves.is) ∙ big_id left mid done.left done.gives);
   }
   by_command (command.ChvgBig name) acked stood (ChvgBigFails core left mid why some mine drains done says) = absurd (cc (says))
+  by_command (command.Reducevg name disks) acked stood (NoGroupForReducevg none is) = absurd (let e = is.0 in cc (e))
+  by_command (command.Reducevg name disks) acked stood (NoMemoryForReducevg some is) = absurd (let e = is.0 in cc (e))
+  by_command (command.Reducevg name disks) acked stood (BusyReducevg mine busy is) = absurd (let e = is.0 in cc (e))
+  by_command (command.Reducevg name disks) acked stood (UndrainedReducevg core why some mine undrained) = absurd (let e = undrained.says in cc (e))
+  by_command (command.Reducevg name disks) acked stood (ReducesGroup core left mid some mine drains done says) = record {
+    core = done.leaves.core;
+    on = done.leaves.session;
+    begun = handed_on done.left old new done.leaves (done.rests refl).0 (done.rests refl).1 (done.held refl (held_mid log.run old new between named stood core left mid some drains));
+    own = λ k is.
+        reduced_id disks core.descriptor k (told_and old.session (λ c. IsReducedBy disks c.descriptor k) core some is)
+        ∙ sym (ap (λ (d : Descriptor). d.id) (path_frames drains.runs).keeps.descriptor) ∙ sym (ap (λ (c : Core). c.descriptor.id) (done.leaves.is) ∙ ap (λ (c : Core). c.descriptor.id) done.gives.1.is);
+  }
+  by_command (command.Reducevg name disks) acked stood (ReducevgFails core left mid why some mine drains done says) = absurd (cc (says))
   by_command (command.Mklv name copies mode policy group lps) acked stood (NoGroupForMklv none is) = absurd (let e = is.0 in cc (e))
   by_command (command.Mklv name copies mode policy group lps) acked stood (BusyMklv on busy is) = absurd (let e = is.0 in cc (e))
   by_command (command.Mklv name copies mode policy group lps) acked stood (UndrainedMklv core why some on un) = absurd (let e = un.says in cc (e))

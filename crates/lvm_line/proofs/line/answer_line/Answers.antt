@@ -6,7 +6,7 @@ use Rattle.lvm_parse.specs.Reading.{misfit}
 use Rattle.lvm_volume_lines.specs.passed.GroupLines.{Reply, shelf_in}
 use Rattle.lvm_volume_lines.specs.passed.ReplyVariants as reply
 use Rattle.lvm_line.specs.Lines.{CommandInPlace, IsLeftToDo}
-use Rattle.lvm_line.proofs.LinesLemmas.Answering.{mkvg_left}
+use Rattle.lvm_line.proofs.LinesLemmas.Answering.{mkvg_left, reducevg_left}
 use Rattle.lvm_line.proofs.LinesLemmas.Staying.{done_in_place, still_in_place}
 use Rattle.lvm_line.proofs.line.answer_line.Goals as goal
 
@@ -38,5 +38,8 @@ returns-in-Err-BadLine g c = (
   λ stuck. cc stuck,
 )
 
-pub returns-in-Err-Memory : goal.returns-in-Err-Memory
-returns-in-Err-Memory g c = (refl, mkvg_left (line_of c.args.line.now) (c.parse.ensures.memory (cc)))
+pub returns-in-Err-MkvgMemory : goal.returns-in-Err-MkvgMemory
+returns-in-Err-MkvgMemory g c = (refl, mkvg_left (line_of c.args.line.now) (c.parse.ensures.mkvg_memory (cc)))
+
+pub returns-in-Err-ReducevgMemory : goal.returns-in-Err-ReducevgMemory
+returns-in-Err-ReducevgMemory g c = (refl, reducevg_left (line_of c.args.line.now) (c.parse.ensures.reducevg_memory (cc)))

@@ -1,8 +1,10 @@
-use Rattle.std.proofs.Common.{◌≤◌, refl, sym, subst, ℕ, List, length}
+use Rattle.std.proofs.Common.{◌≤◌, ◌≢◌, refl, sym, subst, ℕ, List, length}
+use Rattle.std.specs.Prelude.{AllPairs}
 use Rattle.lvm_disk.specs.declared.shelf.Arrange.TheVariants as arrange
-use Rattle.lvm_volume_lines.specs.passed.GroupLines.{ArrangeDoes, CommandEnds, Aside, most_refusals, session_in, shelf_in, Reply, MkvgDoes, DiskShows, GroupShows, VolumeShows}
+use Rattle.lvm_volume_lines.specs.passed.GroupLines.{ArrangeDoes, CommandEnds, Aside, OfGroup, most_refusals, session_in, shelf_in, Reply, MkvgDoes, DiskShows, GroupShows, VolumeShows}
 use Rattle.lvm_line.proofs.LinesLemmas.Lining.{done_by, listed_by, one_disk, one_group, one_volume, order_left, served_by}
 use Rattle.lvm_parse.specs.Within.{IsWithinLimits}
+use Rattle.lvm_member_lines.specs.Reducing.{ReducevgDoes}
 use Rattle.lvm_line.proofs.line.do_command.Goals as goal
 
 pub returns-in-Mkvg : goal.returns-in-Mkvg
@@ -22,6 +24,19 @@ returns-in-ChvgQuorum g c = done_by g.S.Shelf.device c.args.room c.args.command 
 
 pub returns-in-ChvgBig : goal.returns-in-ChvgBig
 returns-in-ChvgBig g c = done_by g.S.Shelf.device c.args.room c.args.command _ _ _ c.do_chvg_big.result.reply _ _ _ _ c.in-ChvgBig.is (c.do_chvg_big.ensures (g.C.Clock.last c.args.clock.now)) refl
+
+pub do_reducevg-requires-clause-some : goal.do_reducevg-requires-clause-some
+do_reducevg-requires-clause-some g c = let within = subst IsWithinLimits c.in-Reducevg.is c.requires.within in subst (λ (disks : List ℕ). 1 ≤ length disks) (sym c.as_slice-in-Reducevg.ensures) within.0
+
+pub do_reducevg-requires-clause-differ : goal.do_reducevg-requires-clause-differ
+do_reducevg-requires-clause-differ g c = let within = subst IsWithinLimits c.in-Reducevg.is c.requires.within in subst (λ (disks : List ℕ). AllPairs (λ a b. a ≢ b) disks) (sym c.as_slice-in-Reducevg.ensures) within.1
+
+pub returns-in-Reducevg : goal.returns-in-Reducevg
+returns-in-Reducevg g c =
+    done_by g.S.Shelf.device c.args.room c.args.command _ _ _ c.do_reducevg.result.reply _ _ _ _ c.in-Reducevg.is
+    (subst (λ (disks : List ℕ). CommandEnds g.S.Shelf.device (λ log. ReducevgDoes c.in-Reducevg.name disks) ⊥ OfGroup c.args.stage c.do_reducevg.result.stage c.do_reducevg.result.reply (g.C.Clock.last c.args.clock.now) (g.C.Clock.last c.args.clock.now)) c.as_slice-in-Reducevg.ensures
+    (c.do_reducevg.ensures (g.C.Clock.last c.args.clock.now)))
+    refl
 
 pub returns-in-Mklv : goal.returns-in-Mklv
 returns-in-Mklv g c = done_by g.S.Shelf.device c.args.room c.args.command _ _ _ c.do_mklv.result.reply _ _ _ _ c.in-Mklv.is (c.do_mklv.ensures (g.C.Clock.last c.args.clock.now)) refl

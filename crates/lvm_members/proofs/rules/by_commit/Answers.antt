@@ -1,6 +1,7 @@
 use Rattle.std.proofs.Common.{ℕ, [], ap}
 use Rattle.lvm_num.specs.declared.descriptor.Descriptor.{Descriptor}
-use Rattle.lvm_session.specs.State.{State, state}
+use Rattle.lvm_change_laws.proofs.RuleLemmas.{rule_is_change}
+use Rattle.lvm_session.specs.State.{State, is_there, state}
 use Rattle.lvm_core.specs.Settled.{IsSettled}
 use Rattle.lvm_volumes.specs.Endings.{StillHeld, KeepsFresh}
 use Rattle.lvm_volumes.proofs.StagesLemmas.Entering.{has_numbers}
@@ -38,7 +39,7 @@ returns g c =
     record {
       gives = rule_gives next p old new c.requires.may answer told ends c.answer_of-told.ensures;
       settled = rule_on next p old new c.requires.may (IsSettled new.core) (λ done. done.settled) answer told ends c.answer_of-told.ensures;
-      held = rule_on next p old new c.requires.may (StillHeld old new) (rule_still next p q old new c.requires.may.rule e.left leaves) answer told ends c.answer_of-told.ensures;
-      fresh = rule_on next p old new c.requires.may (KeepsFresh old new) (rule_fresh next p q old new c.requires.may.rule e.left leaves) answer told ends c.answer_of-told.ensures;
+      held = rule_on next p old new c.requires.may (StillHeld old new) (rule_still next p q old new (rule_is_change old.core.descriptor next (is_there old.core) c.requires.may.rule) e.left leaves) answer told ends c.answer_of-told.ensures;
+      fresh = rule_on next p old new c.requires.may (KeepsFresh old new) (rule_fresh next p q old new (rule_is_change old.core.descriptor next (is_there old.core) c.requires.may.rule) e.left leaves) answer told ends c.answer_of-told.ensures;
       leaves = leaves;
     }

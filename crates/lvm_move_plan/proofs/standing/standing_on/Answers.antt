@@ -1,10 +1,10 @@
-use Rattle.std.proofs.Common.{ap, arith}
-use Rattle.lvm_move_plan.specs.Standing.{standing_of}
-use Rattle.lvm_move_plan.proofs.StandingLemmas.{flat_more}
+use Rattle.std.proofs.Common.{◌≡◌, subst}
+use Rattle.std.specs.Prelude.{◌==◌, IfOk}
+use Rattle.lvm_num.specs.Disks.{Disks}
+use Rattle.lvm_num.proofs.Booleans.{or_false}
+use Rattle.lvm_move_plan.specs.Standing.{standing_among}
 use Rattle.lvm_move_plan.proofs.standing.standing_on.Goals as goal
 
-pub loop-row-preserved : goal.loop-row-preserved
-loop-row-preserved c =
-    let row = c.row-item.result in
-    flat_more (standing_of c.args.lv c.args.disk) c.as_slice-row-items.result.now c.loop-row.row-index row c.loop-row.copies.items c.add_volume.new.copies.items (standing_of c.args.lv c.args.disk row)
-    (omega arith) c.in_ok-add_volume.ensures c.loop-row.invariant (ap (standing_of c.args.lv c.args.disk) c.row-item.is)
+pub returns : goal.returns
+returns c =
+    subst (λ (set : Disks). IfOk c.standing_among.result (λ copies. copies.items ≡ standing_among c.args.d.now c.args.lv set)) (λ t other. or_false (other == c.args.disk) t) c.standing_among.ensures

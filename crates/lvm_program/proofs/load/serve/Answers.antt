@@ -2,7 +2,7 @@ use Rattle.std.proofs.Common.{◌∙◌, ap, sym}
 use Rattle.lvm_vol.specs.Log.{Log}
 use Rattle.lvm_session.specs.State.{state_of}
 use Rattle.lvm_top.specs.passed.GroupLines.{without_facts}
-use Rattle.lvm_line.proofs.passed.Tie.{path_shape}
+use Rattle.lvm_top.proofs.passed.Tie.{path_shape}
 use Rattle.lvm_program.proofs.load.serve.Goals as goal
 
 pub serve_load-driver-requires-clause-unstuck : goal.serve_load-driver-requires-clause-unstuck

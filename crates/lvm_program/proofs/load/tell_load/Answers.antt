@@ -1,6 +1,6 @@
 use Rattle.std.proofs.Common.{Option, ◌∙◌, sym, subst}
 use Rattle.lvm_load.specs.declared.workload.Woven.{Woven}
-use Rattle.lvm_line.specs.passed.GroupLines.{Refusal}
+use Rattle.lvm_top.specs.passed.GroupLines.{Refusal}
 use Rattle.lvm_top.specs.Script.{passage}
 use Rattle.lvm_program.specs.Loaded.{TellsLoaded, TellsTotals, refusal_of}
 use Rattle.lvm_program.proofs.load.tell_load.Goals as goal

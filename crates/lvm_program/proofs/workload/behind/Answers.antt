@@ -1,5 +1,5 @@
 use Rattle.lvm_session.specs.State.{state_of}
-use Rattle.lvm_line.proofs.passed.Tie.{runs_none}
+use Rattle.lvm_top.proofs.passed.Tie.{runs_none}
 use Rattle.lvm_program.proofs.workload.behind.Goals as goal
 
 pub returns-then-unheard-clause-runs : goal.returns-then-unheard-clause-runs

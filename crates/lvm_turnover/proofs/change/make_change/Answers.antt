@@ -3,7 +3,7 @@ use Rattle.lvm_turnover.proofs.TurningLemmas.{may_of, ends_of, leaves_of}
 use Rattle.lvm_turnover.proofs.change.make_change.Goals as goal
 
 pub turn_group-requires-clause-may : goal.turn_group-requires-clause-may
-turn_group-requires-clause-may g c = may_of c.args.change (state (g.S.Shelf.device c.args.driver.0) c.args.driver.1) c.requires.ready c.requires.rule
+turn_group-requires-clause-may g c = may_of c.args.change (state (g.S.Shelf.device c.args.driver.0) c.args.driver.1) c.requires.ready c.requires.may
 
 pub returns : goal.returns
 returns g c =

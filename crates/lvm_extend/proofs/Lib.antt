@@ -1,0 +1,3 @@
+pub mod AdmissionLemmas
+pub mod JoiningLemmas
+pub mod SpreadingLemmas

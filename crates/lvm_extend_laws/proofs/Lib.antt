@@ -1,0 +1,3 @@
+pub mod JoiningLemmas
+pub mod ExamplesLemmas
+pub mod WritingLemmas

@@ -1,0 +1,4 @@
+pub mod JoiningLemmas
+pub mod OneByOneLemmas
+pub mod JudgedLemmas
+pub mod ExamplesLemmas

@@ -1,0 +1,5 @@
+pub mod Descriptors
+pub mod Examples
+pub mod Judged
+pub mod Refusals
+pub mod Steps

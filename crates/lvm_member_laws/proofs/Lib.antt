@@ -1,0 +1,3 @@
+mod Rows
+mod DataLemmas
+pub mod ReducingLemmas

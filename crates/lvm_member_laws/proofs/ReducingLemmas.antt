@@ -1,0 +1,3 @@
+pub mod Finding
+pub mod Going
+pub mod Serving

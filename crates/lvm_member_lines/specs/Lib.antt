@@ -1,0 +1,2 @@
+pub mod passed
+pub mod Reducing

@@ -1,0 +1,4 @@
+pub mod MemberPlan
+pub mod MemberSteps
+pub mod Reduce
+pub mod ReduceFaultVariants

@@ -1,0 +1,5 @@
+pub mod ChainLemmas
+pub mod ComingLemmas
+pub mod HoldingLemmas
+pub mod OffLemmas
+pub mod StepLemmas

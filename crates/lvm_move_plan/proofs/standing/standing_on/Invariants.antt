@@ -1,6 +1,0 @@
-use Rattle.std.proofs.Common.{◌≡◌, take, flat_map}
-use Rattle.lvm_move_plan.specs.Standing.{standing_of}
-use Rattle.lvm_move_plan.proofs.standing.standing_on.Given as goal
-
-abbrev pub invariant-loop-row : goal.invariant-loop-row
-invariant-loop-row l = l.copies.items ≡ flat_map (standing_of l.lv l.disk) (take l.row-index l.row-items)

@@ -1,0 +1,15 @@
+pub mod AllLemmas
+pub mod ChangesLemmas
+pub mod ClosingLemmas
+pub mod DepartingLemmas
+pub mod EraseLemmas
+pub mod ErasedLemmas
+pub mod ErasingLemmas
+pub mod ExamplesLemmas
+pub mod GivesLemmas
+pub mod LeavingLemmas
+pub mod ListLemmas
+pub mod MarkedLemmas
+pub mod PlanningLemmas
+pub mod RawLemmas
+pub mod TidyingLemmas

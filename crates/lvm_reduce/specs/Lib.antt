@@ -1,0 +1,4 @@
+pub mod Erasing
+pub mod Departures
+pub mod Answers
+pub mod Examples
