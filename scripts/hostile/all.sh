@@ -9,7 +9,7 @@
 #   flips        scripts/images.sh flips, all of it in one piece
 #   allocations calls deaths loads             one table of scripts/refusals.sh each
 #   kills        scripts/kill_load.py
-#   posts return scripts/cuts.sh, one script each: a second cut 1 to 80 calls behind the first, each
+#   posts return moves     scripts/cuts.sh, one script each: a second cut 1 to 80 calls behind the first, each
 # LVM names the program, and ROWS the one that runs rows.
 set -u
 here=$(cd "$(dirname "$0")/.." && pwd)
@@ -17,7 +17,7 @@ lvm=$(realpath -m "${LVM:-$here/../crates/lvm/out/lvm}")
 runs_rows=$(realpath -m "${ROWS:-$here/../crates/lvm_rows/out/lvm_rows}")
 unset ROWS
 export LVM=$lvm
-[ $# -gt 0 ] || set -- stored sessions rows random largest torn lengths notes flips allocations calls deaths loads kills posts return
+[ $# -gt 0 ] || set -- stored sessions rows random largest torn lengths notes flips allocations calls deaths loads kills posts return moves
 
 # stored: the refusals by number, and the statuses, of the stored runs of both programs
 stored() {
@@ -40,7 +40,7 @@ one() {
         rows | random | largest | torn | lengths | notes | flips) "$here/images.sh" "$1" ;;
         allocations | calls | deaths | loads) "$here/refusals.sh" "$1" ;;
         kills) "$here/kill_load.py" "$LVM" ;;
-        posts | return) ROWS=$runs_rows "$here/cuts.sh" --only "$1" 1 80 ;;
+        posts | return | moves) ROWS=$runs_rows "$here/cuts.sh" --only "$1" 1 80 ;;
         *) echo "no part '$1'" && return 2 ;;
     esac
 }
