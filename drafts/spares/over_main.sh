@@ -1,6 +1,6 @@
 #!/bin/bash
 # check lvm_rebuild with main's lvm_migrate (scratch only)
-cd /work/h/G
+cd the draft G
 W=$(RT_LIBS=/work/rt-libs /work/shared/tools/libs --words lvm_rebuild)
 MINE=$(RT_LIBS=/work/rt-libs python3 - <<'P'
 src=open('/work/shared/tools/libs').read().replace('sys.exit(main(sys.argv[1:]))','')

@@ -1,5 +1,5 @@
 import os,re,shutil
-G='/work/h/G/crates/'; S='/work/h/G.scratch/crates/'
+G='the draft G/crates/'; S='the draft G.scratch/crates/'
 R=S+'lvm_rebuild/'
 shutil.rmtree(R+'src',ignore_errors=True); shutil.rmtree(R+'specs',ignore_errors=True); shutil.rmtree(R+'proofs',ignore_errors=True)
 os.makedirs(R,exist_ok=True)
@@ -114,7 +114,7 @@ if os.path.isdir(d):
 p=R+'src/lib.rt'; s=rd(p).replace('mod choosing;\n','mod beside;\nmod choosing;\n').replace('mod fault;\n','mod fault;\nmod free;\n').replace('mod rebuilding;\n','mod moving;\nmod opening;\nmod rebuilding;\nmod standing;\n'); wr(p,s)
 p=R+'src/choosing.rt'; s=rd(p).replace('use lvm_move_plan::{VolumeCopy, is_listed, lowest_free, stands_beside};','use crate::beside::stands_beside;\nuse crate::free::lowest_free;\nuse crate::standing::is_listed;\nuse lvm_move_plan::VolumeCopy;'); wr(p,s)
 p=R+'src/rebuilding.rt'; s=rd(p).replace('use lvm_migrate::{MoveFault, move_one};','use crate::moving::move_one;\nuse crate::standing::standing_among;\nuse lvm_migrate::MoveFault;').replace('use lvm_move_plan::{PlannedMove, VolumeCopy, standing_among};','use lvm_move_plan::{PlannedMove, VolumeCopy};'); wr(p,s)
-c='/work/h/G.scratch/crates.txt'
+c='the draft G.scratch/crates.txt'
 s=rd(c)
 s=re.sub(r'lvm_rebuild:.*\n','',s)
 i=s.index('lvm_handover:')

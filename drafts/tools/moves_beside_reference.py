@@ -2,7 +2,7 @@
 """fuzz.py BIN REF SEED FIRST COUNT [JOBS]: scripts of moves.py by both programs' `sim`; each that differs is shortened and printed."""
 import sys, subprocess, importlib.util, collections
 from concurrent.futures import ThreadPoolExecutor
-spec = importlib.util.spec_from_file_location("moves", "/work/h/T/scripts/hostile/moves.py")
+spec = importlib.util.spec_from_file_location("moves", "the draft T/scripts/hostile/moves.py")
 moves = importlib.util.module_from_spec(spec); spec.loader.exec_module(moves)
 BIN, REF = sys.argv[1:3]; seed, first, count = map(int, sys.argv[3:6]); jobs = int(sys.argv[6]) if len(sys.argv) > 6 else 2
 

@@ -6,11 +6,11 @@ while true; do
     d=$(readlink /proc/$p/cwd)
     case "$d" in
       /work/int/*|/tmp/rt-copy*) n=-10; case " $CH " in *" $c "*) n=-18;; esac;;
-      /work/h/T/*) n=-6;;
-      /work/h/G/crates/lvm_migrate|/work/h/G/crates/lvm_move_plan) n=2;;
-      /work/h/E/crates/lvm_move_tie|/work/h/E/crates/lvm_going_laws) n=-14;;
-      /work/h/C/crates/lvm_member_*|/work/h/C/crates/lvm_reduce|/work/h/B/crates/lvm_member*|/work/h/B/crates/lvm_extend*|/work/h/D/crates/lvm_parse|/work/h/D/crates/lvm_words|/work/h/D/crates/lvm_member*|/work/h/F/crates/lvm_*lines|/work/h/F/crates/lvm_line|/work/h/F/crates/lvm_top|/work/h/F/crates/lvm_program) n=-2;;
-      /work/h/G/crates/lvm_change*|/work/h/G/crates/lvm_members|/work/h/G/crates/lvm_rebuild|/work/h/G/crates/lvm_turnover) n=3;;
+      the draft T/*) n=-6;;
+      the draft G/crates/lvm_migrate|the draft G/crates/lvm_move_plan) n=2;;
+      the draft E/crates/lvm_move_tie|the draft E/crates/lvm_going_laws) n=-14;;
+      the draft C/crates/lvm_member_*|the draft C/crates/lvm_reduce|the draft B/crates/lvm_member*|the draft B/crates/lvm_extend*|the draft D/crates/lvm_parse|the draft D/crates/lvm_words|the draft D/crates/lvm_member*|the draft F/crates/lvm_*lines|the draft F/crates/lvm_line|the draft F/crates/lvm_top|the draft F/crates/lvm_program) n=-2;;
+      the draft G/crates/lvm_change*|the draft G/crates/lvm_members|the draft G/crates/lvm_rebuild|the draft G/crates/lvm_turnover) n=3;;
       *) n=4; case "$a" in *'rattle build'*) n=19;; esac;;
     esac
     renice -n $n -p $(ls /proc/$p/task 2>/dev/null) >/dev/null 2>&1

@@ -1,5 +1,5 @@
 import os,re,subprocess,sys,glob
-root='/work/h/Dt'; cases=sys.argv[1]; crate=sys.argv[2] if len(sys.argv)>2 else 'lvm'
+root='the draft Dt'; cases=sys.argv[1]; crate=sys.argv[2] if len(sys.argv)>2 else 'lvm'
 deps={}
 for l in open(f'{root}/crates.txt',encoding='utf-8'):
     l=l.split('#')[0].strip()

@@ -6,5 +6,5 @@ B=$1; N=$2; L=/tmp/T/$N
 ( python3 - <<P
 P
 /work/shared/check/reference fuzz $B /work/shared/check/reference --seed 90201 --count 3000 --upto 9 > $L.fuzz 2>&1 ) &
-( cd /work/h/T; LVM=$B scripts/hostile/all.sh sessions allocations > $L.all1 2>&1; LVM=$B scripts/hostile/all.sh calls > $L.all2 2>&1; LVM=$B scripts/hostile/all.sh deaths > $L.all3 2>&1;  LVM=$B scripts/hostile/all.sh rows random > $L.all4 2>&1 ) &
+( cd the draft T; LVM=$B scripts/hostile/all.sh sessions allocations > $L.all1 2>&1; LVM=$B scripts/hostile/all.sh calls > $L.all2 2>&1; LVM=$B scripts/hostile/all.sh deaths > $L.all3 2>&1;  LVM=$B scripts/hostile/all.sh rows random > $L.all4 2>&1 ) &
 wait
