@@ -1,6 +1,6 @@
 -- Members leave one after the other.
-use Rattle.std.proofs.Common.{◌≡◌, ◌⊎◌, inl, inr, ⊎_elim, ℕ, ◌+◌, ◌*◌, ◌<◌, ◌≤◌, Bool, true, false, ◌&&◌, ◌||◌, not, List, [], ◌∷◌, ◌++◌, length, map, filter, Option, Some, None, refl, sym, ◌∙◌, ap, subst, arith, append_assoc}
-use Rattle.std.specs.Prelude.{◌==◌, IsTrue, IsFalse, Result, Ok, Err}
+use Rattle.std.proofs.Common.{◌≡◌, ◌⊎◌, inl, inr, ⊎_elim, ℕ, ◌+◌, ◌*◌, ◌≤◌, Bool, true, false, ◌&&◌, ◌||◌, not, List, [], ◌∷◌, ◌++◌, length, filter, Option, Some, None, refl, sym, ◌∙◌, ap, subst, arith, append_assoc}
+use Rattle.std.specs.Prelude.{◌==◌, IsTrue, IsFalse, Ok, Err}
 use Rattle.std.proofs.lemmas.Bool.{eqb-true, eq-eqb, false≢true}
 use Rattle.std.proofs.lemmas.List.{append-nil, length-append}
 use Rattle.std.proofs.lemmas.List.Sums.{sum_by-append}
@@ -13,11 +13,11 @@ use Rattle.lvm_num.specs.Buffer.{Sector, zero_sector}
 use Rattle.lvm_num.specs.Record.{slot_start}
 use Rattle.lvm_num.specs.Descriptor.{IsValid, is_member, copies_of, volume_of}
 use Rattle.lvm_num.specs.Among.{IsOneOf}
-use Rattle.lvm_num.proofs.Booleans.{clash, clash_gives, and_false, or_false}
+use Rattle.lvm_num.proofs.Booleans.{clash, and_false, or_false}
 use Rattle.lvm_mwc.specs.declared.notes.DiskNotes.{DiskNotes}
 use Rattle.lvm_mwc.specs.Notes.{is_of_disk}
 use Rattle.lvm_disk.specs.Counts.{Rose}
-use Rattle.lvm_disk.specs.Device.{Device, IsReady, Media, image_of}
+use Rattle.lvm_disk.specs.Device.{IsReady, Media, image_of}
 use Rattle.lvm_vol.specs.declared.entry.Vol.TheVariants.{Disk}
 use Rattle.lvm_vol.specs.Facts.{Fact, Removed}
 use Rattle.lvm_vol.specs.Log.{Log, need, spare_entries, with_fact}
@@ -31,7 +31,6 @@ use Rattle.lvm_session.specs.Judging.{copies_in}
 use Rattle.lvm_session.specs.State.{Core, State, is_there}
 use Rattle.lvm_core.specs.declared.fault.CommitFault.{CommitFault}
 use Rattle.lvm_core.specs.Committing.{is_in}
-use Rattle.lvm_core.specs.Held.{IsHeld}
 use Rattle.lvm_core.specs.Settled.{IsSettled}
 use Rattle.lvm_change_laws.proofs.StayingLemmas.{staying_member}
 use Rattle.lvm_volume_plan.specs.PlannedVolume.{AreOfOneGroup}
@@ -49,7 +48,7 @@ use Rattle.lvm_member_steps.proofs.OffLemmas.{here_leaves}
 use Rattle.lvm_reduce.specs.declared.departure.Departure.{Departure}
 use Rattle.lvm_reduce.specs.Erasing.{IsErasedOrFailed}
 use Rattle.lvm_reduce.specs.Departures.{AreDepartures, IsDeparture, EntersOrNot, IsEntered, IsNotEntered, HasDeparted, DepartEnds, HasNumbersFor, disks_of}
-use Rattle.lvm_reduce.specs.Answers.{HasEntered, HasReduced, HasLeft, LeaveEnds, IsPartOf}
+use Rattle.lvm_reduce.specs.Answers.{HasEntered, HasLeft, LeaveEnds}
 use Rattle.lvm_reduce.proofs.ChangesLemmas.{next_member, numbers_left, there_or_lost}
 use Rattle.lvm_reduce.proofs.ListLemmas.{notes_more, notes_none, part_less, part_more, reduced_more}
 use Rattle.lvm_reduce.proofs.MarkedLemmas.{no_target}

@@ -1,21 +1,19 @@
 -- A change by which no member leaves, if there is one: the descriptor behind it, and the numbers that it spends.
-use Rattle.std.proofs.Common.{◌≡◌, ◌⊎◌, inl, inr, ⊎_elim, ℕ, ◌+◌, ◌*◌, ◌<◌, ◌≤◌, ◌^◌, Bool, true, false, ◌&&◌, not, List, [], ◌∷◌, Option, Some, None, refl, sym, ◌∙◌, ap, subst, arith}
-use Rattle.std.specs.Prelude.{◌==◌, IsTrue, IsFalse, IfSome, Result}
+use Rattle.std.proofs.Common.{◌≡◌, ◌⊎◌, inl, inr, ℕ, ◌+◌, ◌*◌, ◌≤◌, Bool, true, false, ◌&&◌, not, List, [], Option, Some, None, refl, sym, ◌∙◌, ap, subst, arith}
+use Rattle.std.specs.Prelude.{IsTrue, IfSome, Result}
 use Rattle.std.proofs.lemmas.Bool.{false≢true}
 use Rattle.lvm_num.specs.declared.descriptor.PvRow.{PvRow}
-use Rattle.lvm_num.specs.declared.descriptor.LvRow.{LvRow}
 use Rattle.lvm_num.specs.declared.descriptor.Descriptor.{Descriptor}
 use Rattle.lvm_num.specs.Descriptor.{IsValid, is_member}
 use Rattle.lvm_num.specs.Status.{calls_missing}
 use Rattle.lvm_disk.specs.Counts.{Rose}
-use Rattle.lvm_commit.specs.Settling.{SpendsNumbers, many_there}
-use Rattle.lvm_status.specs.Update.{Stored}
+use Rattle.lvm_commit.specs.Settling.{SpendsNumbers}
 use Rattle.lvm_session.specs.State.{Core, State, is_there}
 use Rattle.lvm_core.specs.declared.fault.CommitFault.{CommitFault}
 use Rattle.lvm_core.specs.Committing.{is_in}
 use Rattle.lvm_core.specs.Settled.{HasSpareNumbers}
 use Rattle.lvm_change_laws.specs.Rule.{staying}
-use Rattle.lvm_change_laws.proofs.StayingLemmas.{all_stay, staying_member}
+use Rattle.lvm_change_laws.proofs.StayingLemmas.{all_stay}
 use Rattle.lvm_volume_plan.specs.PlannedVolume.{AreOfOneGroup}
 use Rattle.lvm_volumes.proofs.StagesLemmas.Entering.{many_bound}
 use Rattle.lvm_turnover.specs.declared.change.Change.{Change}
@@ -23,11 +21,10 @@ use Rattle.lvm_turnover.specs.declared.change.Leaving.{Leaving}
 use Rattle.lvm_turnover.specs.Changing.{IsNext, LeavesWithin}
 use Rattle.lvm_turnover.specs.Turning.{disks_leaving}
 use Rattle.lvm_member_plan.specs.Descriptors.{IsReducedBy, reduced}
-use Rattle.lvm_member_plan.specs.Steps.{IsStep}
 use Rattle.lvm_member_steps.specs.Steps.{StepEnds}
 use Rattle.lvm_member_steps.proofs.ChainLemmas.{within_more}
 use Rattle.lvm_member_steps.proofs.ComingLemmas.{step_reduces}
-use Rattle.lvm_reduce.specs.Departures.{IsTurnFrom, HasNumbersFor, changes_of, next_of}
+use Rattle.lvm_reduce.specs.Departures.{IsTurnFrom, HasNumbersFor, next_of}
 
 -- ---- the descriptor behind it
 

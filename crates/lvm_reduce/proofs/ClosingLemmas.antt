@@ -1,22 +1,21 @@
 -- A member has left: its disk is taken care of, and the group is even no more.
-use Rattle.std.proofs.Common.{◌≡◌, ◌≢◌, ◌⊎◌, inl, inr, ⊎_elim, ℕ, ◌+◌, ◌*◌, ◌<◌, ◌≤◌, ◌^◌, ◌-◌, Bool, true, false, List, [], ◌∷◌, Option, Some, None, refl, sym, ◌∙◌, ap, subst, arith}
+use Rattle.std.proofs.Common.{◌≡◌, ◌⊎◌, inl, inr, ⊎_elim, ℕ, ◌+◌, ◌*◌, false, List, [], ◌∷◌, Option, Some, None, sym, ◌∙◌, ap, subst, arith}
 use Rattle.std.specs.Prelude.{IsTrue, IsFalse, IfSome, Result, Ok, Err}
 use Rattle.std.proofs.lemmas.Bool.{false≢true}
 use Rattle.lvm_num.specs.declared.place.Pp.{Pp}
 use Rattle.lvm_num.specs.declared.descriptor.LvRow.{LvRow}
 use Rattle.lvm_num.specs.declared.descriptor.Descriptor.{Descriptor}
 use Rattle.lvm_num.specs.Disks.{Disks}
-use Rattle.lvm_num.specs.Descriptor.{IsValid, is_member, copies_of}
+use Rattle.lvm_num.specs.Descriptor.{is_member, copies_of}
 use Rattle.lvm_num.specs.Among.{IsOneOf}
-use Rattle.lvm_disk.specs.Device.{Device, IsReady}
+use Rattle.lvm_disk.specs.Device.{IsReady}
 use Rattle.lvm_vol.specs.declared.entry.Vol.TheVariants.{Disk}
 use Rattle.lvm_vol.specs.Facts.{Removed}
 use Rattle.lvm_vol.specs.Log.{Log, with_fact}
 use Rattle.lvm_session.specs.State.{Core, State, is_there}
 use Rattle.lvm_core.specs.declared.fault.CommitFault.{CommitFault}
 use Rattle.lvm_core.specs.declared.fault.CommitFault.TheVariants as fault
-use Rattle.lvm_core.specs.Committing.{is_in, HasGoneDark, IsLeftOut}
-use Rattle.lvm_core.specs.Held.{IsHeld}
+use Rattle.lvm_core.specs.Committing.{is_in}
 use Rattle.lvm_core.specs.Leaves.{NoDescriptor}
 use Rattle.lvm_core.specs.Settled.{IsSettled}
 use Rattle.lvm_volume_plan.specs.PlannedVolume.{AreOfOneGroup}
@@ -24,14 +23,13 @@ use Rattle.lvm_volumes.specs.Endings.{KeepsFresh}
 use Rattle.lvm_volumes.proofs.Leaving.{rose_from}
 use Rattle.lvm_turnover.specs.declared.change.Change.{Change}
 use Rattle.lvm_turnover.specs.Changing.{LeavesWithin}
-use Rattle.lvm_turnover.specs.Turning.{core_after}
-use Rattle.lvm_member_plan.specs.Descriptors.{IsReducedBy, IsOnTheWay}
-use Rattle.lvm_member_steps.specs.Steps.{LeavesIf, HasStepped, StepEnds, BreaksOffSoFar, HasComeSoFar}
+use Rattle.lvm_member_plan.specs.Descriptors.{IsReducedBy}
+use Rattle.lvm_member_steps.specs.Steps.{LeavesIf, HasStepped, StepEnds, HasComeSoFar}
 use Rattle.lvm_member_steps.proofs.ChainLemmas.{as_if, if_more, if_then, within_more}
 use Rattle.lvm_member_steps.proofs.ComingLemmas.{come_here, come_entered, breaks_then, stepped_comes}
 use Rattle.lvm_reduce.specs.declared.departure.Mark.{Mark}
-use Rattle.lvm_reduce.specs.Erasing.{IsErasedOrFailed, as_raw}
-use Rattle.lvm_reduce.specs.Departures.{IsTurnFrom, IsOnShelf, ShowsIfMarked, EntersMarked, EntersRaw, EntersNothing, HasTidied, TidyEnds, HasClosed, CloseEnds, changes_of, next_of}
+use Rattle.lvm_reduce.specs.Erasing.{as_raw}
+use Rattle.lvm_reduce.specs.Departures.{IsTurnFrom, IsOnShelf, ShowsIfMarked, EntersMarked, EntersRaw, EntersNothing, HasTidied, TidyEnds, CloseEnds, changes_of, next_of}
 use Rattle.lvm_reduce.proofs.ChangesLemmas.{next_reduces}
 use Rattle.lvm_reduce.proofs.EraseLemmas.{no_copy_on}
 use Rattle.lvm_reduce.proofs.MarkedLemmas.{marked_on, shelf_on}

@@ -1,11 +1,11 @@
 -- A member leaves, before which its group may become even.
-use Rattle.std.proofs.Common.{◌≡◌, ◌⊎◌, inl, inr, ⊎_elim, ℕ, ◌+◌, ◌*◌, ◌≤◌, Bool, true, false, List, [], ◌∷◌, Option, Some, None, refl, sym, ◌∙◌, ap, subst, arith}
-use Rattle.std.specs.Prelude.{IsTrue, IsFalse, IfSome, Result, Ok, Err}
+use Rattle.std.proofs.Common.{◌≡◌, ◌⊎◌, inl, inr, ⊎_elim, ℕ, ◌+◌, ◌*◌, ◌≤◌, List, [], ◌∷◌, None, sym, ◌∙◌, ap, subst, arith}
+use Rattle.std.specs.Prelude.{IsTrue, IsFalse, Result, Ok, Err}
 use Rattle.std.proofs.lemmas.Bool.{false≢true}
 use Rattle.lvm_num.specs.declared.place.Pp.{Pp}
 use Rattle.lvm_num.specs.declared.descriptor.LvRow.{LvRow}
 use Rattle.lvm_num.specs.declared.descriptor.Descriptor.{Descriptor}
-use Rattle.lvm_num.specs.Descriptor.{is_member, copies_of}
+use Rattle.lvm_num.specs.Descriptor.{copies_of}
 use Rattle.lvm_num.specs.Among.{IsOneOf}
 use Rattle.lvm_disk.specs.Counts.{Rose}
 use Rattle.lvm_disk.specs.Device.{IsReady}
@@ -19,8 +19,6 @@ use Rattle.lvm_core.specs.Committing.{is_in}
 use Rattle.lvm_change_laws.specs.Rule.{staying}
 use Rattle.lvm_volume_plan.specs.PlannedVolume.{AreOfOneGroup}
 use Rattle.lvm_volumes.proofs.Leaving.{rose_on, rose_from}
-use Rattle.lvm_turnover.specs.declared.change.Change.{Change}
-use Rattle.lvm_turnover.specs.declared.change.Leaving.{Leaving}
 use Rattle.lvm_turnover.specs.Changing.{LeavesWithin}
 use Rattle.lvm_turnover.specs.Turning.{core_after}
 use Rattle.lvm_member_plan.specs.Descriptors.{IsReducedBy, reduced}
@@ -28,7 +26,7 @@ use Rattle.lvm_member_steps.specs.Steps.{HasStepped, StepEnds, HasComeTo}
 use Rattle.lvm_member_steps.proofs.ChainLemmas.{as_if, as_within, if_then, within_more}
 use Rattle.lvm_member_steps.proofs.ComingLemmas.{breaks_then, reduced_on, stepped_comes}
 use Rattle.lvm_reduce.specs.declared.departure.Departure.{Departure}
-use Rattle.lvm_reduce.specs.Departures.{CanDepart, IsTurnFrom, IsWayOut, EntersOrNot, IsEntered, IsNotEntered, HasDeparted, DepartEnds, changes_of, next_of}
+use Rattle.lvm_reduce.specs.Departures.{CanDepart, IsWayOut, EntersOrNot, IsEntered, IsNotEntered, HasDeparted, DepartEnds, changes_of, next_of}
 use Rattle.lvm_reduce.proofs.ChangesLemmas.{next_reduces, next_reduced, there_or_lost}
 use Rattle.lvm_reduce.proofs.EraseLemmas.{no_copy_on}
 use Rattle.lvm_reduce.proofs.LeavingLemmas.{gone_member}

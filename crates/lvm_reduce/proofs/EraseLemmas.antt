@@ -1,17 +1,16 @@
 -- A disk that has left is entered as a raw one, and loses its descriptor: what that leaves, and how it ends.
-use Rattle.std.proofs.Common.{◌≡◌, ◌⊎◌, inl, inr, ℕ, Bool, true, false, ◌||◌, List, [], ◌∷◌, ◌++◌, refl, sym, ◌∙◌, ap, subst, arith}
-use Rattle.std.specs.Prelude.{◌==◌, IsTrue, IsFalse, Result, Ok, Err}
+use Rattle.std.proofs.Common.{◌≡◌, ◌⊎◌, inl, inr, ℕ, Bool, true, false, ◌||◌, [], ◌∷◌, refl, sym, ◌∙◌, ap, subst, arith}
+use Rattle.std.specs.Prelude.{◌==◌, IsTrue, IsFalse, Result}
 use Rattle.std.proofs.lemmas.Bool.{eqb-true, false≢true}
 use Rattle.lvm_num.specs.declared.place.Pp.{Pp}
 use Rattle.lvm_num.specs.declared.descriptor.LvRow.{LvRow}
 use Rattle.lvm_num.specs.declared.descriptor.Descriptor.{Descriptor}
 use Rattle.lvm_num.specs.Descriptor.{IsValid, is_member, copies_of}
 use Rattle.lvm_num.specs.Among.{IsOneOf}
-use Rattle.lvm_num.proofs.Booleans.{clash, or_false}
+use Rattle.lvm_num.proofs.Booleans.{clash}
 use Rattle.lvm_disk.proofs.CountingLemmas.{none_falls_at_once}
 use Rattle.lvm_vol.specs.declared.entry.Vol.TheVariants.{Disk}
 use Rattle.lvm_vol.specs.Facts.{Removed}
-use Rattle.lvm_kept.specs.Moments.{Moment}
 use Rattle.lvm_steps.proofs.EnteringLemmas.{quiet_goes_on, calm_goes_on}
 use Rattle.lvm_transfer.specs.declared.moves.Moved.{Moved}
 use Rattle.lvm_transfer.specs.declared.moves.Moved.TheVariants as moved
@@ -23,12 +22,10 @@ use Rattle.lvm_session.specs.Dark.{all_dark}
 use Rattle.lvm_session.specs.State.{Core, State, is_there, moment_of}
 use Rattle.lvm_core.specs.declared.fault.CommitFault.{CommitFault}
 use Rattle.lvm_core.specs.Committing.{is_in, with_one_out}
-use Rattle.lvm_core.specs.Held.{IsHeld}
 use Rattle.lvm_core.specs.Leaves.{NoDescriptor}
 use Rattle.lvm_core.specs.Settled.{IsSettled}
 use Rattle.lvm_core.proofs.LeavesLemmas.{keeps_fact}
 use Rattle.lvm_turnover.specs.Changing.{among, IsOfChange, LeavesWithin}
-use Rattle.lvm_member_steps.specs.Steps.{LeavesIf}
 use Rattle.lvm_member_steps.proofs.ChainLemmas.{as_if, if_then}
 use Rattle.lvm_reduce.specs.Erasing.{IsErasable, ErasesDisk, EraseEnds, EraseKeeps, GoesOnErased, as_raw}
 use Rattle.lvm_reduce.proofs.RawLemmas.{erase_leaves, erase_held}

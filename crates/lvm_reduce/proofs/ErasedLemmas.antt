@@ -1,11 +1,11 @@
 -- A disk that is no member may lose its descriptor: what was committed is shown, whatever the history.
-use Rattle.std.proofs.Common.{◌≡◌, inl, inr, ⊎_elim, ℕ, Bool, true, false, ◌&&◌, List, [], ◌∷◌, Option, Some, None, refl, sym, ap, subst, ◌∙◌, eq-eqb}
+use Rattle.std.proofs.Common.{◌≡◌, inl, inr, ⊎_elim, ℕ, Bool, true, false, ◌&&◌, Option, Some, None, refl, sym, ap, subst, ◌∙◌, eq-eqb}
 use Rattle.std.specs.Prelude.{IsTrue, ◌==◌, not, if◌then◌else◌}
 use Rattle.std.proofs.lemmas.Bool.{eqb-true, ne_eqb, cases_eq}
 use Rattle.lvm_disk.specs.passed.Num.{Descriptor, Status, Disks, all_disks, CanRead, CanWrite, Stamped, newest_below}
 use Rattle.lvm_disk.proofs.passed.Num.{read_meets_write}
 use Rattle.lvm_kept.specs.Contents.{Contents}
-use Rattle.lvm_kept.specs.Group.{if_passes, passes, is_of, is_status_of, has_room, descriptor_among, Finds, IsFound, members_in, ReadsBy}
+use Rattle.lvm_kept.specs.Group.{if_passes, passes, is_of, has_room, descriptor_among, Finds, IsFound, members_in, ReadsBy}
 use Rattle.lvm_kept.specs.Committed.{IsWithinDisks}
 use Rattle.lvm_kept.proofs.CommittedLemmas.Finding.{offered, finding_reads, finds_from}
 use Rattle.lvm_change_laws.proofs.Words.{newest_looked}

@@ -1,6 +1,6 @@
 -- A disk that has left loses its descriptor: what the session says is held, and what was kept is kept.
-use Rattle.std.proofs.Common.{◌≡◌, inl, inr, ⊎_elim, ℕ, ◌+◌, ◌<◌, ◌++◌, Bool, true, false, ◌&&◌, ◌||◌, List, [], ◌∷◌, Option, Some, None, get_or, take, refl, sym, ◌∙◌, ap, subst, arith, append_assoc}
-use Rattle.std.specs.Prelude.{◌==◌, nat_le, IsTrue, IsFalse, if◌then◌else◌}
+use Rattle.std.proofs.Common.{◌≡◌, inl, inr, ⊎_elim, ℕ, ◌+◌, ◌<◌, ◌++◌, Bool, true, false, ◌&&◌, ◌||◌, List, [], ◌∷◌, Option, None, get_or, take, refl, sym, ◌∙◌, ap, subst, arith}
+use Rattle.std.specs.Prelude.{◌==◌, nat_le, IsTrue, if◌then◌else◌}
 use Rattle.std.specs.List.{list_any}
 use Rattle.std.proofs.lemmas.Bool.{false≢true, cases_eq}
 use Rattle.lvm_num.specs.declared.record.Kind.{Kind}
@@ -36,7 +36,6 @@ use Rattle.lvm_kept.proofs.CommittedLemmas.Finding.{images_within}
 use Rattle.lvm_steps.specs.Behind.{StampsBefore}
 use Rattle.lvm_erase.specs.Erasing.{ZeroesSlot, ZeroesSlots, ErasesTo, ErasesOne, ErasingShowsOne}
 use Rattle.lvm_commit.specs.Committed.{next_stamp, ShowsCommitted, HoldsCommitted}
-use Rattle.lvm_change_laws.specs.Committed.{MayErase}
 use Rattle.lvm_change_laws.proofs.ErasingLemmas.{erasing_keeps}
 use Rattle.lvm_reduce.specs.Erasing.{ShowsOlder}
 use Rattle.lvm_commit.specs.LawsOfFinding.{FindsNothingNew}

@@ -1,5 +1,5 @@
 -- Worked sessions which members may leave.
-use Rattle.std.proofs.Common.{ℕ, refl, arith}
+use Rattle.std.proofs.Common.{refl, arith}
 use Rattle.lvm_num.specs.declared.descriptor.Mode.{Mode}
 use Rattle.lvm_num.specs.Votes.{votes_by}
 use Rattle.lvm_reduce.specs.Examples.{ThirdMayLeave, MembersMayLeave}

@@ -1,5 +1,5 @@
 -- What the command answers, by how the writing of records ended.
-use Rattle.std.proofs.Common.{◌≡◌, inl, inr, ⊎_elim, ℕ, ◌+◌, ◌*◌, ◌<◌, ◌≤◌, ◌^◌, ◌-◌, Bool, true, false, List, length, None, refl, sym, subst, arith}
+use Rattle.std.proofs.Common.{◌≡◌, inl, inr, ⊎_elim, ℕ, ◌*◌, Bool, true, false, List, length, None, refl, sym, subst, arith}
 use Rattle.std.specs.Prelude.{⊤, MatchBool, Result, Ok, Err}
 use Rattle.lvm_num.specs.Descriptor.{volume_of}
 use Rattle.lvm_num.proofs.DescriptorLemmas.Bounds.{few_members}

@@ -1,7 +1,7 @@
 -- A member leaves by its change, and its disk is taken care of.
-use Rattle.std.proofs.Common.{◌≡◌, ◌⊎◌, inl, inr, ⊎_elim, ℕ, ◌+◌, ◌*◌, ◌<◌, ◌≤◌, ◌^◌, ◌-◌, Bool, true, false, ◌&&◌, ◌||◌, not, List, [], ◌∷◌, Option, Some, None, refl, sym, ◌∙◌, ap, subst, arith}
-use Rattle.std.specs.Prelude.{◌==◌, IsTrue, IsFalse, IfSome, IfNone, Result, Ok, Err, min}
-use Rattle.std.proofs.lemmas.Bool.{eq-eqb, false≢true}
+use Rattle.std.proofs.Common.{◌≡◌, ◌⊎◌, inl, inr, ⊎_elim, ℕ, ◌+◌, ◌*◌, ◌<◌, ◌≤◌, ◌^◌, ◌-◌, Bool, false, ◌&&◌, ◌||◌, not, List, [], ◌∷◌, Option, Some, None, refl, sym, ◌∙◌, ap, subst, arith}
+use Rattle.std.specs.Prelude.{IsTrue, IsFalse, IfSome, IfNone, Result, Ok, Err, min}
+use Rattle.std.proofs.lemmas.Bool.{eq-eqb}
 use Rattle.lvm_num.specs.declared.place.Pp.{Pp}
 use Rattle.lvm_num.specs.declared.descriptor.LvRow.{LvRow}
 use Rattle.lvm_num.specs.declared.descriptor.Descriptor.{Descriptor}
@@ -21,16 +21,15 @@ use Rattle.lvm_change_laws.proofs.StayingLemmas.{staying_member}
 use Rattle.lvm_volume_plan.specs.PlannedVolume.{AreOfOneGroup}
 use Rattle.lvm_volumes.proofs.Leaving.{rose_from}
 use Rattle.lvm_turnover.specs.declared.change.Change.{Change}
-use Rattle.lvm_turnover.specs.declared.change.Leaving.{Leaving}
 use Rattle.lvm_turnover.specs.Changing.{IsNext, LeavesWithin}
 use Rattle.lvm_turnover.specs.Turning.{ShowsGone, core_after, disks_leaving}
-use Rattle.lvm_member_plan.specs.Descriptors.{IsReducedBy, IsOnTheWay, reduced}
+use Rattle.lvm_member_plan.specs.Descriptors.{IsReducedBy, reduced}
 use Rattle.lvm_member_plan.specs.Steps.{IsStep}
-use Rattle.lvm_member_steps.specs.Steps.{LeavesIf, HasStepped, StepEnds, BreaksOff, HasComeTo}
+use Rattle.lvm_member_steps.specs.Steps.{LeavesIf, HasStepped, StepEnds, HasComeTo}
 use Rattle.lvm_member_steps.proofs.ChainLemmas.{as_if, as_within, if_more, if_then, within_more}
 use Rattle.lvm_member_steps.proofs.ComingLemmas.{breaks_then, reduced_on, step_reduces, stepped_comes}
 use Rattle.lvm_reduce.specs.declared.departure.Mark.{Mark}
-use Rattle.lvm_reduce.specs.Departures.{IsWayOut, IsMarked, IsUnmarked, IsOnShelf, ShowsIfMarked, EntersMarked, EntersRaw, EntersNothing, EntersOrNot, IsEntered, IsNotEntered, HasClosed, CloseEnds, HasDeparted, DepartEnds, changes_of, next_of}
+use Rattle.lvm_reduce.specs.Departures.{IsWayOut, IsMarked, IsUnmarked, IsOnShelf, ShowsIfMarked, EntersMarked, EntersRaw, EntersNothing, EntersOrNot, IsEntered, IsNotEntered, HasClosed, CloseEnds, DepartEnds, changes_of, next_of}
 use Rattle.lvm_reduce.proofs.EraseLemmas.{no_copy_on}
 use Rattle.lvm_reduce.proofs.MarkedLemmas.{shows_marked, marked_shelf}
 

@@ -1,10 +1,9 @@
 -- Lists of disks: some of them in their order, and what is kept of others.
-use Rattle.std.proofs.Common.{◌≡◌, ◌⊎◌, inl, inr, ℕ, Bool, true, false, ◌&&◌, ◌||◌, not, List, [], ◌∷◌, ◌++◌, ◌<◌, length, refl, sym, ◌∙◌, ap, subst, arith}
+use Rattle.std.proofs.Common.{◌≡◌, inl, inr, ℕ, Bool, true, false, ◌&&◌, ◌||◌, not, List, [], ◌∷◌, ◌++◌, ◌<◌, length, refl, sym, ◌∙◌, ap, arith}
 use Rattle.std.specs.Prelude.{◌==◌, if◌then◌else◌, filter, slice_index_or}
 use Rattle.std.specs.List.{remove}
 use Rattle.lvm_num.specs.declared.descriptor.PvRow.{PvRow}
 use Rattle.lvm_num.specs.declared.descriptor.Descriptor.{Descriptor}
-use Rattle.lvm_num.specs.Disks.{Disks}
 use Rattle.lvm_num.proofs.Booleans.{or_false}
 use Rattle.lvm_mwc.specs.declared.notes.DiskNotes.{DiskNotes}
 use Rattle.lvm_mwc.specs.Notes.{is_of_disk}

@@ -1,6 +1,6 @@
 -- A disk that left and was marked: it shows the next descriptor, and goes on showing it while a change is written to others.
-use Rattle.std.proofs.Common.{◌≡◌, ◌⊎◌, inl, inr, ⊎_elim, ℕ, ◌+◌, ◌<◌, ◌≤◌, ◌^◌, ◌-◌, Bool, true, false, ◌&&◌, not, List, [], ◌∷◌, Option, Some, None, refl, sym, ◌∙◌, ap, subst, arith}
-use Rattle.std.specs.Prelude.{◌==◌, IsTrue, IsFalse, IfSome, Ok, if◌then◌else◌}
+use Rattle.std.proofs.Common.{◌≡◌, inl, inr, ⊎_elim, ℕ, ◌<◌, ◌≤◌, ◌^◌, ◌-◌, Bool, true, false, ◌&&◌, not, [], Option, Some, None, refl, sym, ◌∙◌, ap, subst, arith}
+use Rattle.std.specs.Prelude.{IsTrue, IfSome, Ok, if◌then◌else◌}
 use Rattle.std.proofs.lemmas.Bool.{eq-eqb, false≢true}
 use Rattle.lvm_num.specs.declared.record.Kind.TheVariants as kind
 use Rattle.lvm_num.specs.declared.descriptor.Descriptor.{Descriptor}
@@ -12,20 +12,17 @@ use Rattle.lvm_num.specs.Status.{calls_missing}
 use Rattle.lvm_num.proofs.Booleans.{clash}
 use Rattle.lvm_rec.specs.Homes.{second_slots}
 use Rattle.lvm_rec.specs.Slots.{slot_for, newest_on}
-use Rattle.lvm_disk.specs.Counts.{Rose}
-use Rattle.lvm_disk.specs.Device.{Image, Media, SameDisks, image_of}
-use Rattle.lvm_kept.specs.Contents.{contents_of, descriptor_on, has_records}
+use Rattle.lvm_disk.specs.Device.{Image, SameDisks, image_of}
+use Rattle.lvm_kept.specs.Contents.{descriptor_on, has_records}
 use Rattle.lvm_kept.specs.Group.{passes, is_of}
 use Rattle.lvm_kept.specs.Plans.{ChangesBy}
 use Rattle.lvm_kept.proofs.PlacesLemmas.{room-same}
-use Rattle.lvm_write.specs.Written.{HasRoom}
 use Rattle.lvm_write.proofs.PartsLemmas.Transfers.{still_room}
 use Rattle.lvm_write.proofs.WrittenLemmas.Writing.{if_told, told_at, both_from}
 use Rattle.lvm_status.specs.Update.{members_there}
 use Rattle.lvm_erase.specs.Erasing.{slot_number}
 use Rattle.lvm_commit.specs.Settling.{there}
-use Rattle.lvm_session.specs.State.{Core, State, is_there}
-use Rattle.lvm_core.specs.Committing.{is_in}
+use Rattle.lvm_session.specs.State.{State}
 use Rattle.lvm_core.specs.Held.{IsHeld}
 use Rattle.lvm_change_laws.specs.Rule.{IsShownOn}
 use Rattle.lvm_volume_plan.specs.PlannedVolume.{AreOfOneGroup}

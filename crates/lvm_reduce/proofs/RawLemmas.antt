@@ -1,10 +1,8 @@
 -- What a session leaves that took its descriptor from a disk which has left the group, once the history says that it is a raw disk.
-use Rattle.std.proofs.Common.{◌≡◌, ◌⊎◌, inl, inr, ⊎_elim, ℕ, ◌<◌, ◌++◌, Bool, true, false, ◌||◌, List, [], ◌∷◌, length, replicate, Option, Some, None, IfSome, refl, sym, ◌∙◌, ap, subst, arith, append_assoc}
-use Rattle.std.specs.Prelude.{◌==◌, IsTrue, Result, Ok, Err}
-use Rattle.std.proofs.lemmas.Bool.{eq-eqb, eqb-true, false≢true}
-use Rattle.lvm_num.specs.declared.descriptor.Descriptor.{Descriptor}
+use Rattle.std.proofs.Common.{◌≡◌, inl, inr, ℕ, ◌++◌, Bool, true, false, ◌||◌, List, [], ◌∷◌, length, replicate, Some, refl, sym, ◌∙◌, ap, subst, arith, append_assoc}
+use Rattle.std.specs.Prelude.{◌==◌, IsTrue, Result}
+use Rattle.std.proofs.lemmas.Bool.{eq-eqb, false≢true}
 use Rattle.lvm_num.specs.Buffer.{Sector}
-use Rattle.lvm_num.specs.Disks.{Disks}
 use Rattle.lvm_num.specs.Descriptor.{is_member}
 use Rattle.lvm_num.specs.Status.{calls_dirty, calls_missing, calls_stale}
 use Rattle.lvm_num.specs.Votes.{CanWrite}
@@ -34,7 +32,7 @@ use Rattle.lvm_session.specs.State.{Core, State, state, is_there, moment_of}
 use Rattle.lvm_core.specs.declared.fault.CommitFault.{CommitFault}
 use Rattle.lvm_core.specs.Sound.{HasNoneOpen, IsSoundAtRest}
 use Rattle.lvm_core.specs.Held.{IsHeld}
-use Rattle.lvm_core.specs.Committing.{is_in, with_one_out, StaysBehind}
+use Rattle.lvm_core.specs.Committing.{with_one_out, StaysBehind}
 use Rattle.lvm_core.specs.Leaves.{KeepsHistory, IsHeldSince, NoDescriptor}
 use Rattle.lvm_core.proofs.LeavesLemmas.{keeps_same, keeps_cut as history_keeps_cut, finds_nothing}
 use Rattle.lvm_commit.specs.LawsOfFinding.{FindsNothingNewOn, FindsNothingNew}

@@ -1,19 +1,15 @@
 -- A disk that left is taken care of, or left as it is.
-use Rattle.std.proofs.Common.{◌≡◌, ◌⊎◌, inl, inr, ⊎_elim, ℕ, ◌<◌, ◌≤◌, ◌^◌, ◌-◌, List, [], ◌∷◌, Option, Some, None, refl, sym, ◌∙◌, ap, subst, arith}
+use Rattle.std.proofs.Common.{◌≡◌, inl, inr, ⊎_elim, ℕ, ◌<◌, [], ◌∷◌, Option, Some, refl, sym, ◌∙◌, ap, subst, arith}
 use Rattle.std.specs.Prelude.{IsTrue, IfSome, Result, Ok, Err}
-use Rattle.lvm_num.specs.declared.descriptor.Descriptor.{Descriptor}
-use Rattle.lvm_num.specs.Buffer.{Sector}
 use Rattle.lvm_disk.specs.Device.{IsReady}
 use Rattle.lvm_vol.specs.Log.{Log}
-use Rattle.lvm_kept.specs.Contents.{note_sector}
 use Rattle.lvm_commit.specs.LawsOfVolumes.{IsOnlyGroupOn}
 use Rattle.lvm_commit.specs.Settling.{NoneIsLeft}
 use Rattle.lvm_erase.specs.Erasing.{slot_number}
 use Rattle.lvm_session.specs.State.{Core, State, is_there}
 use Rattle.lvm_core.specs.declared.fault.CommitFault.{CommitFault}
 use Rattle.lvm_core.specs.declared.fault.CommitFault.TheVariants as fault
-use Rattle.lvm_core.specs.Held.{IsHeld}
-use Rattle.lvm_core.specs.Leaves.{IsOfCommand, MayBeFound, NoDescriptor, NoPartition}
+use Rattle.lvm_core.specs.Leaves.{MayBeFound, NoDescriptor, NoPartition}
 use Rattle.lvm_turnover.specs.Changing.{IsOfChange, among}
 use Rattle.lvm_volumes.proofs.EndingsLemmas.Notes.{SparesNotes, command_spares, notes_stay}
 use Rattle.lvm_member_steps.specs.Steps.{LeavesIf}
@@ -22,7 +18,7 @@ use Rattle.lvm_member_steps.proofs.HoldingLemmas.{zeros_spare}
 use Rattle.lvm_member_steps.proofs.OffLemmas.{here_leaves}
 use Rattle.lvm_reduce.specs.declared.departure.Mark.{Mark}
 use Rattle.lvm_reduce.specs.Erasing.{IsErasable, EraseEnds, EraseKeeps, HasErased, as_raw}
-use Rattle.lvm_reduce.specs.Departures.{IsOnShelf, ShowsIfMarked, StillHeldIf, EntersRaw, EntersNothing, HasTidied, TidyEnds}
+use Rattle.lvm_reduce.specs.Departures.{ShowsIfMarked, StillHeldIf, EntersRaw, EntersNothing, HasTidied, TidyEnds}
 
 -- ---- nothing is done
 

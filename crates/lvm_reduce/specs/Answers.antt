@@ -1,5 +1,5 @@
 -- What the command answers by which members leave a group.
-use Rattle.std.specs.Prelude.{◌≡◌, ◌⊎◌, ℕ, ◌==◌, Bool, true, false, not, ⊤, MatchBool, List, [], ◌∷◌, filter, IsTrue, IsFalse, Result, Ok, Err}
+use Rattle.std.specs.Prelude.{◌≡◌, ◌⊎◌, ℕ, Bool, true, false, not, ⊤, MatchBool, List, [], ◌∷◌, filter, IsTrue, IsFalse, Result, Ok, Err}
 use Rattle.lvm_disk.specs.Counts.{Rose}
 use Rattle.lvm_disk.specs.Device.{IsReady}
 use Rattle.lvm_mwc.specs.declared.notes.DiskNotes.{DiskNotes}

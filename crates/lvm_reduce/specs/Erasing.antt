@@ -8,7 +8,6 @@ use Rattle.lvm_disk.specs.Counts.{Rose}
 use Rattle.lvm_disk.specs.Paths.{DeviceStep, Path}
 use Rattle.lvm_vol.specs.declared.entry.Vol.TheVariants.{Disk}
 use Rattle.lvm_vol.specs.Facts.{Removed}
-use Rattle.lvm_vol.specs.Log.{with_fact}
 use Rattle.lvm_kept.specs.Contents.{contents_of}
 use Rattle.lvm_kept.specs.Group.{passes, is_of}
 use Rattle.lvm_transfer.specs.declared.moves.Moved.{Moved}

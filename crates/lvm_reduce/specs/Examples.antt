@@ -2,7 +2,7 @@
 use Rattle.std.specs.Prelude.{Bool, true, false, [], ◌∷◌}
 use Rattle.lvm_num.specs.declared.descriptor.Mode.{Mode}
 use Rattle.lvm_session.specs.State.{Core}
-use Rattle.lvm_session.specs.Worked.{Says, calm, core_of, fresh, status_of}
+use Rattle.lvm_session.specs.Worked.{calm, core_of, fresh, status_of}
 use Rattle.lvm_member_plan.specs.declared.fault.ReduceFault.TheVariants as fault
 use Rattle.lvm_member_plan.specs.Refusals.{MayReduce, RefusesReduce}
 

@@ -1,4 +1,3 @@
-use Rattle.std.proofs.Common.{sym}
 use Rattle.lvm_reduce.proofs.PlanningLemmas.{is_departure}
 use Rattle.lvm_reduce.proofs.departure.plan_departure.Goals as goal
 

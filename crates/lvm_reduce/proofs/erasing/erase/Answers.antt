@@ -3,7 +3,7 @@ use Rattle.lvm_erase.specs.Erasing.{slot_number}
 use Rattle.lvm_session.specs.Fields.{core_of}
 use Rattle.lvm_session.specs.Sound.{is_dark}
 use Rattle.lvm_session.specs.State.{Core, State, state}
-use Rattle.lvm_core.specs.Sound.{HasNoneOpen, IsSoundAtRest}
+use Rattle.lvm_core.specs.Sound.{IsSoundAtRest}
 use Rattle.lvm_core.proofs.SoundLemmas.Own.{SameSizes, rooms_stay}
 use Rattle.lvm_reduce.specs.Erasing.{ErasesDisk, EraseEnds, EraseKeeps, as_raw}
 use Rattle.lvm_reduce.proofs.EraseLemmas.{erase_keeps, erase_ends}

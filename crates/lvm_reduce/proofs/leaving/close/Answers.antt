@@ -1,9 +1,8 @@
-use Rattle.std.proofs.Common.{◌≡◌, ℕ, None, sym, subst}
-use Rattle.std.specs.Prelude.{Result, Ok, Err}
+use Rattle.std.proofs.Common.{ℕ, None, subst}
+use Rattle.std.specs.Prelude.{Err}
 use Rattle.lvm_session.specs.State.{State, state}
-use Rattle.lvm_core.specs.declared.fault.CommitFault.{CommitFault}
 use Rattle.lvm_member_steps.specs.Steps.{HasStepped, StepEnds}
-use Rattle.lvm_reduce.specs.Departures.{CloseEnds, next_of}
+use Rattle.lvm_reduce.specs.Departures.{next_of}
 use Rattle.lvm_reduce.proofs.ClosingLemmas.{close_broke, close_ends, close_leaves, close_leaves_broke, on_behind}
 use Rattle.lvm_reduce.proofs.leaving.close.Goals as goal
 

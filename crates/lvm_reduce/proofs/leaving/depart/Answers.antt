@@ -1,9 +1,8 @@
-use Rattle.std.proofs.Common.{◌≡◌, ℕ, ◌+◌, ◌≤◌, None, [], sym, subst, ap, arith}
-use Rattle.std.specs.Prelude.{Result, Ok, Err}
+use Rattle.std.proofs.Common.{ℕ, ◌+◌, ◌≤◌, None, [], sym, subst, ap, arith}
+use Rattle.std.specs.Prelude.{Err}
 use Rattle.lvm_num.specs.declared.descriptor.Descriptor.{Descriptor}
 use Rattle.lvm_vol.specs.Log.{Log, spare_entries}
 use Rattle.lvm_session.specs.State.{Core, State, state}
-use Rattle.lvm_core.specs.declared.fault.CommitFault.{CommitFault}
 use Rattle.lvm_member_steps.specs.Steps.{HasStepped, StepEnds}
 use Rattle.lvm_reduce.specs.Departures.{changes_of, next_of}
 use Rattle.lvm_reduce.proofs.ChangesLemmas.{numbers_left}

@@ -1,7 +1,6 @@
-use Rattle.std.proofs.Common.{◌≡◌, ℕ, ◌+◌, [], sym, subst, arith}
-use Rattle.std.specs.Prelude.{Result, Ok, Err}
+use Rattle.std.proofs.Common.{ℕ, ◌+◌, [], sym, subst, arith}
+use Rattle.std.specs.Prelude.{Ok, Err}
 use Rattle.lvm_session.specs.State.{Core, State, state}
-use Rattle.lvm_core.specs.declared.fault.CommitFault.{CommitFault}
 use Rattle.lvm_core.specs.Settled.{HasSpareNumbers}
 use Rattle.lvm_turnover.specs.Changing.{IsNext, LeavesWithin}
 use Rattle.lvm_turnover.specs.Turning.{ShowsGone, disks_leaving}

@@ -1,13 +1,12 @@
-use Rattle.std.proofs.Common.{◌≡◌, ℕ, ◌<◌, ◌^◌, true, not, length, sym, subst, ap, ◌∙◌, arith}
+use Rattle.std.proofs.Common.{◌≡◌, ◌<◌, ◌^◌, true, not, length, sym, subst, ap, ◌∙◌, arith}
 use Rattle.std.specs.Prelude.{IsTrue}
 use Rattle.std.proofs.lemmas.Option.{slice_get_within}
-use Rattle.std.proofs.lemmas.Bool.Decides.{nat_tests}
 use Rattle.lvm_num.specs.declared.record.Kind.TheVariants as kind
 use Rattle.lvm_num.specs.Descriptor.{IsValid}
 use Rattle.lvm_num.specs.Disks.{Disks, has}
 use Rattle.lvm_rec.specs.Homes.{second_slots}
 use Rattle.lvm_status.proofs.Disks.{member-below}
-use Rattle.lvm_session.specs.State.{Core, State, state, is_there}
+use Rattle.lvm_session.specs.State.{Core, state, is_there}
 use Rattle.lvm_core.proofs.SettlingLemmas.{member_has_room}
 use Rattle.lvm_member_plan.proofs.VotesLemmas.{there_by}
 use Rattle.lvm_reduce.proofs.leaving.mark_of.Goals as goal

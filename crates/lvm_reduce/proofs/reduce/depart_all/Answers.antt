@@ -1,9 +1,8 @@
-use Rattle.std.proofs.Common.{◌≡◌, ℕ, ◌≤◌, List, [], ◌∷◌, length, sym, subst, ◌∙◌, arith}
-use Rattle.std.specs.Prelude.{Result, Ok, Err}
+use Rattle.std.proofs.Common.{◌≡◌, ℕ, ◌≤◌, List, ◌∷◌, length, subst, arith}
+use Rattle.std.specs.Prelude.{Ok, Err}
 use Rattle.std.proofs.lemmas.Bool.Decides.{nat_tests}
 use Rattle.std.proofs.lemmas.List.{length-map, nil_from_length}
 use Rattle.lvm_session.specs.State.{State, state}
-use Rattle.lvm_core.specs.declared.fault.CommitFault.{CommitFault}
 use Rattle.lvm_reduce.specs.declared.departure.Departure.{Departure}
 use Rattle.lvm_reduce.specs.Departures.{DepartEnds, disks_of}
 use Rattle.lvm_reduce.proofs.AllLemmas.{IsOnItsWay, begins, way_broke, way_done, way_leaves, way_leaves_done, way_next}

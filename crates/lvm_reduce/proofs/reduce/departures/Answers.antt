@@ -1,6 +1,5 @@
 use Rattle.std.proofs.Common.{◌≡◌, ℕ, suc, ◌+◌, ◌<◌, ◌∙◌, ap, List, ◌∷◌, ◌++◌, [], length, get_or, drop, sym, subst, arith}
 use Rattle.std.proofs.Math.Seq.{drop-cons}
-use Rattle.lvm_num.specs.declared.descriptor.Descriptor.{Descriptor}
 use Rattle.lvm_reduce.specs.declared.departure.Departure.{Departure}
 use Rattle.lvm_member_plan.specs.Descriptors.{reduced}
 use Rattle.lvm_reduce.specs.Departures.{IsDeparture}

@@ -1,5 +1,5 @@
-use Rattle.std.proofs.Common.{◌≡◌, ℕ, ◌+◌, ◌*◌, ◌≤◌, List, [], length, IfOk, sym, subst, ap, ◌∙◌, arith}
-use Rattle.std.specs.Prelude.{Result, Ok, Err, Vec}
+use Rattle.std.proofs.Common.{◌≡◌, ℕ, ◌+◌, ◌*◌, List, [], length, IfOk, sym, subst, ap, ◌∙◌, arith}
+use Rattle.std.specs.Prelude.{Result, Ok, Vec}
 use Rattle.std.specs.declared.alloc.Global.{Global}
 use Rattle.std.proofs.lemmas.List.{length-map}
 use Rattle.lvm_num.specs.declared.descriptor.Descriptor.{Descriptor}
