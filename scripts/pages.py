@@ -4,9 +4,10 @@
     pages.py [PAGE ..]              all four checks below; a line for each thing that is wrong, status 1 if there is any
     pages.py examples [PAGE ..]     runs each example of the pages and compares what it prints
     pages.py examples --write ..    writes what the program prints into the examples
-    pages.py names [PAGE ..]        looks up each file and each name in backticks
+    pages.py examples --try ..      runs those over disks in memory alone, by `rt try`: without a proof, in a few minutes
+    pages.py names [PAGE ..]        looks up each file and each name in backticks, and what each wrong body changes
     pages.py sentences [PAGE ..]    lists sentences of more than 30 words, and the median of each page
-    pages.py tables                 compares the tables that scripts make; --write makes them anew
+    pages.py tables                 compares the tables and the numbers that scripts make; --write makes them anew
 
 Without a page: README.md, CONTRIBUTING.md, CHANGELOG.md, docs/*.md and the README.md of each crate.
 
@@ -17,7 +18,7 @@ lines behind `$ lvm sim ..` begin with `> `, these are the script, and under eac
 
 LVM names the program; without it crates/lvm/out/lvm is taken, which `rt run` builds.
 """
-import os, re, statistics, subprocess, sys, tempfile
+import functools, os, re, statistics, subprocess, sys, tempfile
 
 ROOT = os.path.dirname(os.path.dirname(os.path.abspath(__file__)))
 LVM = os.path.abspath(os.environ.get("LVM") or f"{ROOT}/crates/lvm/out/lvm")
@@ -136,6 +137,55 @@ def examples(pages, write):
     return bad
 
 
+def sim_runs(body):
+    """The runs over disks in memory of a block: the words, the script, and what stands under it; and how many other commands it has."""
+    runs, others, at = [], 0, 0
+    while at < len(body):
+        command, end = body[at][2:], at + 1
+        while end < len(body) and not body[end].startswith("$ "):
+            end += 1
+        rows, of_file = body[at + 1:end], re.fullmatch(r"lvm (sim \d+ \d+) < (examples/\S+)", command)
+        if of_file and os.path.exists(f"{ROOT}/{of_file[2]}"):
+            lines = read(of_file[2]).splitlines()
+            wide = max(len(it) for it in lines) + 3
+            runs.append((of_file[1].split(), lines, [it[wide:] for it in rows if it[wide:]]))
+        elif re.fullmatch(r"lvm sim \d+ \d+", command) and any(it.startswith(">") for it in rows):
+            runs.append((command.split()[1:], [it[2:] for it in rows if it.startswith(">")], [it for it in rows if not it.startswith(">")]))
+        elif piped := re.fullmatch(r"printf '([^']*)' \| lvm (sim \d+ \d+)", command):
+            runs.append((piped[2].split(), piped[1].replace("\\n", "\n").splitlines(), rows))
+        elif drawn := re.fullmatch(r"lvm ((?:gen|weave)(?: \d+)+)(; echo status \$\?)?", command):
+            runs.append((drawn[1].split(), [], rows[:-1] if drawn[2] else rows))
+        else:
+            others += 1
+        at = end
+    return runs, others
+
+
+def try_examples(pages):
+    """Runs what the examples have over disks in memory by `rt try`, which checks the types and builds once, and proves nothing."""
+    count, others, bad = 0, 0, []
+    with tempfile.TemporaryDirectory() as folder:
+        for page in pages:
+            lines = read(page).split("\n")
+            for at, end in blocks(lines):
+                body = [it[4:] for it in lines[at:end]]
+                if body[0].startswith("$ "):
+                    runs, more = sim_runs(body)
+                    others += more
+                    for number, (words, script, wanted) in enumerate(runs):
+                        name = f"{folder}/{page.replace('/', '_').replace('.', '_')}_{at + 1}_{number}"
+                        for ending, text in (("", script), (".args", words), (".stdout", wanted)):
+                            with open(name + ending, "w", encoding="utf-8") as file:
+                                file.write("".join(it + "\n" for it in text))
+                        count += 1
+        ran = subprocess.run(["rt", "try", "--cases", folder], cwd=f"{ROOT}/crates/lvm", stdout=subprocess.PIPE, stderr=subprocess.STDOUT, text=True)
+        print(ran.stdout, end="")
+        if ran.returncode:
+            bad.append(f"examples: rt try ended with status {ran.returncode}")
+    print(f"examples: {count} run over disks in memory, {others} other commands not")
+    return bad
+
+
 # ---- names
 
 def tree_words():
@@ -197,6 +247,31 @@ def names(pages):
     return bad
 
 
+def edits():
+    """Wrong bodies whose text doesn't stand just once where it is changed, or that the README of their crate doesn't name."""
+    bad = []
+    for folder in sorted(list(edits_under("crates")) + list(edits_under("scripts/wrong-bodies"))):
+        crate = folder.split("/")[-2] if folder.endswith("/must-fail") else folder.split("/")[-1]
+        page = read(f"crates/{crate}/README.md") if os.path.exists(f"{ROOT}/crates/{crate}/README.md") else ""
+        for name in sorted(os.listdir(folder)):
+            if not name.endswith(".edit"):
+                continue
+            path = os.path.relpath(f"{folder}/{name}", ROOT)
+            text = read(path)
+            file = re.search(r"^file: (.*)$", text, re.M)
+            if not file or not os.path.exists(f"{ROOT}/crates/{crate}/{file[1]}"):
+                bad.append(f"{path}: no file {file[1] if file else ''}")
+                continue
+            code = read(f"crates/{crate}/{file[1]}")
+            for lines in re.findall(r"((?:^old:.*\n)+)", text, re.M):
+                old = "\n".join(it[5:] for it in lines.rstrip("\n").split("\n"))
+                if code.count(old) != 1:
+                    bad.append(f"{path}: stands {code.count(old)} times: {old.strip()[:80]}")
+            if f"`{name[:-5]}`" not in page:
+                bad.append(f"{path}: crates/{crate}/README.md doesn't name it")
+    return bad
+
+
 # ---- sentences
 
 def sentences_of(text):
@@ -221,6 +296,8 @@ def sentences(pages):
         counts = []
         for it in sentences_of(read(page)):
             count = len(it.split())
+            if set(it.split()) == {"CODE"}:
+                continue
             if count > 2:
                 counts.append(count)
             if count > MOST:
@@ -272,12 +349,15 @@ def room_table():
     return out
 
 
-def crate_table():
-    deps = {}
-    for line in read("crates.txt").split("\n"):
-        if ":" in line and not line.startswith("#"):
-            deps[line.split(":")[0].split()[0]] = line.split(":", 1)[1].split()
-    above = {it: set() for it in deps}
+def graph():
+    """What each crate of crates.txt names, in their order."""
+    return {name: below for name, below in ((line.split(":")[0].split()[0], line.split(":", 1)[1].split())
+                                            for line in read("crates.txt").split("\n") if ":" in line and not line.startswith("#"))}
+
+
+def above_each():
+    """The crates that stand on each crate, directly or not."""
+    deps, above = graph(), {}
 
     def below(name, seen):
         for dep in deps.get(name, []):
@@ -287,8 +367,14 @@ def crate_table():
         return seen
 
     for it in deps:
+        above.setdefault(it, set())
         for dep in below(it, set()):
-            above[dep].add(it)
+            above.setdefault(dep, set()).add(it)
+    return above
+
+
+def crate_table():
+    above = above_each()
     out = ["| Crate | What it has | Crates above |", "|---|---|---|"]
     for _, _, crates in rooms():
         for it in crates:
@@ -296,12 +382,107 @@ def crate_table():
     return out
 
 
+def change_table():
+    """How many crates are proved again when one changes, in steps of ten."""
+    rows = {}
+    for it, crates in above_each().items():
+        if crates and not it.startswith("lvm_tests"):
+            rows.setdefault(len(crates) // 10 * 10, []).append(it)
+    out = ["| Crates above | Crates |", "|---|---|"]
+    for least in sorted(rows, reverse=True):
+        out.append(f"| {least or 1} to {least + 9} | {' '.join(f'`{it}`' for it in rows[least])} |")
+    return out
+
+
+def law_table():
+    """The crates in which no function has a body."""
+    found = []
+    for it in graph():
+        texts = [read(f"crates/{it}/src/{path}") for path in sources(it)]
+        if not any(re.search(r"^\s*\{$|\bfn \w+[^;{]*\{$", text, re.M) for text in texts):
+            found.append(f"`{it}`")
+    return [", ".join(found) + "."]
+
+
+def sources(name):
+    base = f"{ROOT}/crates/{name}/src"
+    return [os.path.relpath(f"{at}/{file}", base) for at, _, files in os.walk(base) for file in sorted(files) if file.endswith(".rt")]
+
+
+def test_list(page):
+    """The tests of the page's crate by their names, which are sentences, file by file."""
+    name, out = page.split("/")[1], []
+    for path in sorted(sources(name)):
+        found = re.findall(r"#\[test\]\n(?:\s*#\[.*\]\n)*\s*(?:pub )?fn (\w+)", read(f"crates/{name}/src/{path}"))
+        if found:
+            out += ["", f"`src/{path}`:", ""] + [f"- {it.replace('_', ' ')}" for it in found]
+    return out[1:]
+
+
 def event_table():
     from events import table
     return table()
 
 
-MADE = {"rooms": room_table, "crates": crate_table, "events": event_table}
+MADE = {"rooms": room_table, "crates": crate_table, "changes": change_table, "laws": law_table, "events": event_table, "tests": test_list}
+
+
+# ---- numbers: what stands in the groups of each pattern, wherever the text does
+
+def edits_under(folder):
+    """The folders with edits below this one, and how many edits there are."""
+    found = {}
+    for at, _, files in os.walk(f"{ROOT}/{folder}"):
+        if "/out" not in at and any(it.endswith(".edit") for it in files):
+            found[at] = sum(it.endswith(".edit") for it in files)
+    return found
+
+
+def ways():
+    """How many ways lead down through crates.txt, from each crate to each below it or to itself."""
+    deps, known = graph(), {}
+
+    def from_here(name):
+        if name not in known:
+            known[name] = 1 + sum(from_here(dep) for dep in deps[name] if dep in deps)
+        return known[name]
+
+    return sum(from_here(it) for it in deps)
+
+
+def behind(module, name):
+    """How many definitions one rests on, itself among them, and of how many lines, comments and types of the code aside."""
+    from plain import Specs
+    specs, seen, todo = Specs(set()), set(), [(module, name)]
+    while todo:
+        at = todo.pop()
+        if at not in seen:
+            seen.add(at)
+            todo += specs.below(*at)
+    return len(seen), sum(bool(line.strip()) for of, it in seen for line in specs.load(of)[2][it].split("\n"))
+
+
+NUMBER_WORDS = ["no", "one", "two", "three", "four", "five", "six", "seven", "eight", "nine", "ten"]
+
+
+@functools.lru_cache(None)
+def numbers_wanted():
+    must, tried, deps = edits_under("crates"), edits_under("scripts/wrong-bodies"), graph()
+    return [
+        (r"`UpholdsPlainly` in `lvm_top/specs/Plain.antt`. It rests on (\d+) definitions of (\d+) lines", list(behind("Rattle.lvm_top.specs.Plain", "UpholdsPlainly"))),
+        (r"(\d+) edits stand under `must-fail/` of (\w+) crates", [sum(must.values()), NUMBER_WORDS[len(must)]]),
+        (r"(\d+) wrong bodies of (\d+) crates stand under", [sum(tried.values()), len(tried)]),
+        (r"With (\d+) crates and (\d+) names of them in these lines there are ([\d,]+) ways", [len(deps), sum(it in deps for below in deps.values() for it in below), f"{ways():,}"]),
+    ]
+
+
+def numbers(text):
+    """The text with the numbers that the tree has."""
+    for pattern, wanted in numbers_wanted():
+        for it in reversed(list(re.finditer(pattern, text))):
+            for group in range(len(wanted), 0, -1):
+                text = text[:it.start(group)] + str(wanted[group - 1]) + text[it.end(group):]
+    return text
 
 
 def edges_up():
@@ -320,11 +501,18 @@ def tables(pages, write):
     bad = edges_up()
     for page in pages:
         text = read(page)
+        told = numbers(text)
+        if told != text and write:
+            with open(f"{ROOT}/{page}", "w", encoding="utf-8") as file:
+                file.write(told)
+            text = told
+        elif told != text:
+            bad.append(f"{page}: a number isn't that of the tree: pages.py tables --write")
         for name, make in MADE.items():
             mark = re.compile(rf"(<!-- {name}, by scripts/pages.py -->\n).*?(\n<!-- end -->)", re.S)
             if not mark.search(text):
                 continue
-            wanted = mark.sub(lambda it: it.group(1) + "\n" + "\n".join(make()) + "\n" + it.group(2), text)
+            wanted = mark.sub(lambda it: it.group(1) + "\n" + "\n".join(make(page) if make is test_list else make()) + "\n" + it.group(2), text)
             if wanted != text:
                 if write:
                     with open(f"{ROOT}/{page}", "w", encoding="utf-8") as file:
@@ -336,8 +524,8 @@ def tables(pages, write):
 
 
 def main(words):
-    write = "--write" in words
-    words = [it for it in words if it != "--write"]
+    write, by_try = "--write" in words, "--try" in words
+    words = [it for it in words if it not in ("--write", "--try")]
     kind = words.pop(0) if words and words[0] in ("examples", "names", "sentences", "tables") else None
     if words and words[0].startswith("-"):
         print(__doc__)
@@ -347,9 +535,9 @@ def main(words):
     if kind in (None, "tables"):
         bad += tables(pages, write)
     if kind in (None, "examples"):
-        bad += examples(pages, write)
+        bad += try_examples(pages) if by_try else examples(pages, write)
     if kind in (None, "names"):
-        bad += names(pages)
+        bad += names(pages) + edits()
     if kind in (None, "sentences"):
         bad += sentences(pages)
     print("\n".join(bad) if bad else "pages: nothing is wrong")

@@ -11,7 +11,7 @@ import collections, os, re, sys
 
 ROOT = os.path.dirname(os.path.dirname(os.path.abspath(__file__)))
 # the lines, and what stands above them
-LINES = ("lvm_group_lines", "lvm_range_lines", "lvm_volume_lines", "lvm_line", "lvm_top", "lvm_program", "lvm")
+LINES = ("lvm_group_lines", "lvm_range_lines", "lvm_volume_lines", "lvm_move_lines", "lvm_line", "lvm_top", "lvm_program", "lvm")
 USE = re.compile(r"^(?:ghost )?(pub )?use (Rattle\.[\w.]+)\.\{([^}]*)\};?$")
 HEAD = re.compile(r"^(?:(?:abbrev|record|data|pub)\s+)+([^\s:({]+)")
 WORD = re.compile(r"[A-Za-z_][\w']*")

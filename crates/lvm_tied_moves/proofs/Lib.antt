@@ -1,0 +1,4 @@
+pub mod SoundLemmas
+pub mod ViewLemmas
+pub mod ShelfLemmas
+pub mod TiedLemmas
