@@ -1,6 +1,6 @@
 -- The copies that stand on missing disks move to spares, one after the other.
 use Rattle.std.proofs.Common.{◌≡◌, ◌≢◌, ◌⊎◌, inl, inr, ⊎_elim, ◌≤◌, ◌<◌, ◌+◌, ◌++◌, ℕ, zero, suc, Bool, true, false, List, [], ◌∷◌, length, get_or, take, drop, map, Option, Some, None, if◌then◌else◌, refl, sym, ap, subst, ◌∙◌, arith}
-use Rattle.std.specs.Prelude.{◌==◌, ◌||◌, All, is_some, nat_lt, not, Ok, Err, Result, IfErr}
+use Rattle.std.specs.Prelude.{◌==◌, ◌||◌, IfOk, is_some, nat_lt, not, Ok, Err, Result}
 use Rattle.std.specs.List.{list_any}
 use Rattle.std.specs.Option.{option_map_or}
 use Rattle.std.proofs.lemmas.Bool.{cases_Bool, or_left}
@@ -10,17 +10,16 @@ use Rattle.lvm_num.specs.declared.descriptor.PvRow.{PvRow}
 use Rattle.lvm_num.specs.declared.descriptor.LvRow.{LvRow}
 use Rattle.lvm_num.specs.declared.descriptor.Descriptor.{Descriptor}
 use Rattle.lvm_num.specs.Descriptor.{IsValid, is_member, is_pp}
-use Rattle.lvm_num.specs.Disks.{Disks}
 use Rattle.lvm_num.specs.Votes.{total_votes}
 use Rattle.lvm_num.proofs.DescriptorLemmas.Partitions.{one_partition, same_partition}
-use Rattle.lvm_disk.specs.Counts.{NoneFalls, Rose}
-use Rattle.lvm_moved.specs.Moved.{MayStandOn, moved_descriptor, moved_row, with_copy_on}
+use Rattle.lvm_disk.specs.Counts.{NoneFalls}
+use Rattle.lvm_moved.specs.Moved.{MayStandOn, moved_row, with_copy_on}
 use Rattle.lvm_session.specs.declared.bringing.OpenCopy.{OpenCopy}
 use Rattle.lvm_session.specs.declared.open.Power.{Power}
 use Rattle.lvm_session.specs.declared.open.Power.TheVariants as power
 use Rattle.lvm_session.specs.Calls.{has_numbers}
 use Rattle.lvm_session.specs.Causes.{is_held_stale}
-use Rattle.lvm_session.specs.Judging.{is_missing, is_stale, is_wanted_stale}
+use Rattle.lvm_session.specs.Judging.{is_stale, is_wanted_stale}
 use Rattle.lvm_session.specs.Sound.{IsSound}
 use Rattle.lvm_session.specs.State.{Core, State, votes_there}
 use Rattle.lvm_move_plan.specs.declared.standing.VolumeCopy.{VolumeCopy}
@@ -30,19 +29,19 @@ use Rattle.lvm_move_plan.specs.Standing.{StandsAmong, listed, standing_among}
 use Rattle.lvm_move_plan.proofs.LeavingLemmas.{copies_left, stands}
 use Rattle.lvm_migrate.specs.declared.fault.MoveFault.{MoveFault}
 use Rattle.lvm_migrate.specs.declared.fault.MoveFault.TheVariants as move
-use Rattle.lvm_migrate.specs.Committed.{GoesCommitting}
-use Rattle.lvm_migrate.specs.Migrating.{AreFreshBut, GoesBesideMoving, HaveMoved, MoveCause, NoneMoved, OneMoved, refusal_by}
+use Rattle.lvm_migrate.specs.Committed.{GoesCommitting, MovesAsPlanned, stages}
+use Rattle.lvm_migrate.specs.Migrating.{GoesBesideMoving, HaveMoved, MoveCause, NoneMoved, OneMoved, refusal_by}
 use Rattle.lvm_migrate.specs.Moving.{CommitGives}
 use Rattle.lvm_migrate.proofs.BesideLemmas.{beside_both, beside_none}
 use Rattle.lvm_migrate.proofs.CausesLemmas.{IsLater, cause_since, later_both, later_moved, later_same}
 use Rattle.lvm_migrate.proofs.CommittedLemmas.{descriptor_is, epoch_stays, goes_on_still, is_shut, moved_stand}
 use Rattle.lvm_migrate.proofs.MarksLemmas.{IsCleanSince, IsThereSince}
 use Rattle.lvm_migrate.proofs.MigratingLemmas.{clean_new, members_new, place_new}
-use Rattle.lvm_migrate.proofs.WayLemmas.{going_both, going_none, going_some, shut_err}
+use Rattle.lvm_migrate.proofs.WayLemmas.{going_both, going_none, going_some, shut_err, stage_of}
 use Rattle.lvm_rebuild.specs.declared.fault.RebuildFault.{RebuildFault}
 use Rattle.lvm_rebuild.specs.declared.fault.RebuildFault.TheVariants as fault
 use Rattle.lvm_rebuild.specs.Choosing.{choice_of, has_fresh, spare_for}
-use Rattle.lvm_rebuild.specs.Rebuilding.{AllRebuilt, AreRebuilt, HaveRebuilt, IsGroupAfter, IsLeftShutBy, IsPlanned, IsRefused, LacksMemory, NoneRebuilt, RebuildGives, busy_or_full, has_entries, is_busy, rebuild_refusal, OneRebuilt, RebuildCause, RebuildsAll, RebuildsOne, StandRebuilt, StopsAtCopy, StopsRebuilding, copies_moved, move_to, unplaced}
+use Rattle.lvm_rebuild.specs.Rebuilding.{AreRebuilt, HaveRebuilt, IsGroupAfter, IsLeftShutBy, IsPlanned, IsRefused, LacksMemory, NoneRebuilt, RebuildGives, busy_or_full, has_entries, is_busy, rebuild_refusal, OneRebuilt, RebuildCause, RebuildsAll, StandRebuilt, StopsAtCopy, StopsRebuilding, copies_moved, move_to, unplaced}
 use Rattle.lvm_rebuild.proofs.ChoosingLemmas.{IsChosen, chosen, is_there, its_member, may_stand, off_lost}
 
 -- ---- lists
@@ -115,6 +114,19 @@ stand_alike copies d new it = ap unplaced it.is ∙ unplaced_same d it.moves
 pub stand_none : (copies : List VolumeCopy) (d : Descriptor) → StandRebuilt copies d d
 stand_none copies d = record { moves = []; rest = copies; all = refl; is = refl }
 
+-- in each group of the way some have
+stand_stage : (d : Descriptor) (moves : List PlannedMove) (rest : List VolumeCopy) (k : Descriptor) → IsOneOf (stages d moves) k → StandRebuilt (copies_moved moves ++ rest) d k
+stand_stage d [] rest k one = absurd one
+stand_stage d (m ∷ moves) rest k (inl is) = record { moves = m ∷ []; rest = copies_moved moves ++ rest; all = refl; is = is }
+stand_stage d (m ∷ moves) rest k (inr one) =
+    let its = stand_stage (after_move d m) moves rest k one in record { moves = m ∷ its.moves; rest = its.rest; all = ap (λ (l : List VolumeCopy). m.copy ∷ l) its.all; is = its.is }
+
+-- those of fewer moves are among those of more
+stages_more : (d : Descriptor) (moves : List PlannedMove) (m : PlannedMove) (k : Descriptor) → IsOneOf (stages d moves) k → IsOneOf (stages d (moves ++ m ∷ [])) k
+stages_more d [] m k one = absurd one
+stages_more d (x ∷ moves) m k (inl is) = inl is
+stages_more d (x ∷ moves) m k (inr one) = inr (stages_more (after_move d x) moves m k one)
+
 -- those that were rebuilt have moved
 have_moved : {lost : List ℕ} {first : State} {patience : ℕ} {moves : List PlannedMove} {now : State} {left : ℕ} → HaveRebuilt lost first patience moves now left → HaveMoved first patience moves now left
 have_moved NoneRebuilt = NoneMoved
@@ -133,7 +145,7 @@ pub record RebuiltSoFar (lost : List ℕ) (first now : State) (patience left : �
   pub epoch : now.core.status.stamp.epoch ≢ 0
   pub beside : GoesBesideMoving first now patience left
   pub later : IsLater first now
-  pub way : GoesCommitting (StandRebuilt copies first.core.descriptor) first now
+  pub way : MovesAsPlanned moves first now
   pub members : now.core.descriptor.pvs ≡ first.core.descriptor.pvs
   pub inside : (m : PlannedMove) → IsOneOf moves m → is_member first.core.descriptor m.to.disk ≡ true
   pub clean : (m : PlannedMove) → IsOneOf moves m → IsCleanSince first now m.to
@@ -150,7 +162,7 @@ none_so_far lost first left copies listed_are shut on epoch = record {
   epoch = epoch;
   beside = beside_none first left;
   later = later_same first;
-  way = going_none (StandRebuilt copies first.core.descriptor) first;
+  way = going_none (λ (x : Descriptor). IsOneOf (stages first.core.descriptor []) x) first;
   members = refl;
   inside = λ m none. absurd none;
   clean = λ m none. absurd none;
@@ -170,6 +182,12 @@ shown it = moved_stand (have_moved it.have)
 pub stand_so_far : (lost : List ℕ) (first now : State) (patience left : ℕ) (copies : List VolumeCopy) (k : ℕ) (it : RebuiltSoFar lost first now patience left copies k) → StandRebuilt copies first.core.descriptor now.core.descriptor
 stand_so_far lost first now patience left copies k it = record { moves = it.moves; rest = drop k copies; all = sym (whole copies k) ∙ ap (λ (l : List VolumeCopy). l ++ drop k copies) (sym it.moved); is = shown it }
 
+pub way_so_far : (lost : List ℕ) (first now : State) (patience left : ℕ) (copies : List VolumeCopy) (k : ℕ) (it : RebuiltSoFar lost first now patience left copies k) → GoesCommitting (StandRebuilt copies first.core.descriptor) first now
+way_so_far lost first now patience left copies k it = going_some (λ (x : Descriptor). IsOneOf (stages first.core.descriptor it.moves) x) (StandRebuilt copies first.core.descriptor) here first now it.way
+  where
+    here : (x : Descriptor) → IsOneOf (stages first.core.descriptor it.moves) x → StandRebuilt copies first.core.descriptor x
+    here x one = subst (λ (l : List VolumeCopy). StandRebuilt l first.core.descriptor x) (ap (λ (l : List VolumeCopy). l ++ drop k copies) it.moved ∙ whole copies k) (stand_stage first.core.descriptor it.moves (drop k copies) x one)
+
 -- the next one
 module _ (lost : List ℕ) (first old : State) (patience left : ℕ) (copies : List VolumeCopy) (k : ℕ) (d : VolumeCopy) (lt : k < length copies) (so_far : RebuiltSoFar lost first old patience left copies k) where
   abbrev pub c : VolumeCopy
@@ -184,8 +202,9 @@ module _ (lost : List ℕ) (first old : State) (patience left : ℕ) (copies : L
   whole_here : copies ≡ copies_moved so_far.moves ++ c ∷ drop (suc k) copies
   whole_here = sym (whole copies k) ∙ (λ t. sym so_far.moved t ++ dropped copies k d lt t)
 
-  pub stops_here : (after : ℕ) (new : State) (why : RebuildFault) → StopsAtCopy lost c left after old new why → StopsRebuilding lost copies patience after first new why
-  stops_here after new why stops = record {
+  pub stops_here : (after : ℕ) (new : State) (why : RebuildFault) → StopsAtCopy lost c left after old new why → new.core.descriptor ≡ old.core.descriptor → NoneFalls old.device.counts new.device.counts
+      → GoesCommitting (IsGroupAfter lost c old.core) old new → StopsRebuilding lost copies patience after first new why
+  stops_here after new why stops same counts way = record {
     moves = so_far.moves;
     one = c;
     rest = drop (suc k) copies;
@@ -194,7 +213,13 @@ module _ (lost : List ℕ) (first old : State) (patience left : ℕ) (copies : L
     before = left;
     have = so_far.have;
     stops = stops;
+    stand = same ∙ shown so_far;
+    way = going_both Was first old new so_far.beside.counts counts (going_some (λ (x : Descriptor). IsOneOf (stages first.core.descriptor so_far.moves) x) Was (λ x one. inl one) first old so_far.way)
+        (going_some (IsGroupAfter lost c old.core) Was (λ x is. inr is) old new way);
   }
+    where
+      Was : Descriptor → Type 0
+      Was x = IsOneOf (stages first.core.descriptor so_far.moves) x ⊎ IsGroupAfter lost c old.core x
 
   after_last : (g : Descriptor) (moves : List PlannedMove) (m : PlannedMove) → after_moves g (moves ++ m ∷ []) ≡ after_move (after_moves g moves) m
   after_last g [] m = refl
@@ -203,7 +228,7 @@ module _ (lost : List ℕ) (first old : State) (patience left : ℕ) (copies : L
   -- what is being committed then is a group in which it stands elsewhere too
   pub way_next : (new : State) → NoneFalls old.device.counts new.device.counts → GoesCommitting (IsGroupAfter lost c old.core) old new → GoesCommitting (StandRebuilt copies first.core.descriptor) first new
   way_next new counts way =
-      going_both (StandRebuilt copies first.core.descriptor) first old new so_far.beside.counts counts so_far.way (going_some (IsGroupAfter lost c old.core) (StandRebuilt copies first.core.descriptor) here old new way)
+      going_both (StandRebuilt copies first.core.descriptor) first old new so_far.beside.counts counts (way_so_far lost first old patience left copies k so_far) (going_some (IsGroupAfter lost c old.core) (StandRebuilt copies first.core.descriptor) here old new way)
     where
       here : (x : Descriptor) → IsGroupAfter lost c old.core x → StandRebuilt copies first.core.descriptor x
       here x (pp, chosen_is, is) = record {
@@ -265,7 +290,8 @@ module _ (lost : List ℕ) (first old : State) (patience left : ℕ) (copies : L
       epoch = λ none. so_far.epoch (sym (epoch_stays m left after old new gives) ∙ none);
       beside = beside_both first old new patience left after so_far.beside beside;
       later = later_both first old new so_far.later (later_moved m left after old new gives);
-      way = way_next new beside.counts way;
+      way = going_both Is first old new so_far.beside.counts beside.counts (going_some (λ (x : Descriptor). IsOneOf (stages first.core.descriptor so_far.moves) x) Is (λ x one. stages_more first.core.descriptor so_far.moves m x one) first old so_far.way)
+          (going_some (IsGroupAfter lost c old.core) Is here old new way);
       members = members_new first m left after old new sound unstuck may gives ∙ so_far.members;
       inside = λ x one. ⊎_elim (λ was. so_far.inside x was) (λ same. ap (λ (y : PlannedMove). is_member first.core.descriptor y.to.disk) same ∙ member_first) (one_of_both so_far.moves m x one);
       clean = λ x one. ⊎_elim (λ was. cleaned x.to (so_far.inside x was) (so_far.clean x was)) (λ same. subst (λ (y : PlannedMove). IsCleanSince first new y.to) (sym same) placed) (one_of_both so_far.moves m x one);
@@ -274,24 +300,37 @@ module _ (lost : List ℕ) (first old : State) (patience left : ℕ) (copies : L
         next : suc k ≡ k + 1
         next = omega arith
 
+        Is : Descriptor → Type 0
+        Is x = IsOneOf (stages first.core.descriptor (so_far.moves ++ m ∷ [])) x
+
+        here : (x : Descriptor) → IsGroupAfter lost c old.core x → Is x
+        here x (pp, chosen_is, its_is) =
+            let both : Ok pp ≡ Ok to = sym chosen_is ∙ is in
+            let same : pp ≡ to = cc both in
+            subst (IsOneOf (stages first.core.descriptor (so_far.moves ++ m ∷ []))) (sym (its_is ∙ (λ t. after_move (shown so_far t) (move_to c (same t))))) (stage_of first.core.descriptor so_far.moves m [])
+
 -- ---- all of them
 
 module _ (lost : List ℕ) (first now : State) (patience left : ℕ) (copies : List VolumeCopy) (k : ℕ) (so_far : RebuiltSoFar lost first now patience left copies k) (all : length copies ≤ k) where
   all_moved : copies_moved so_far.moves ≡ copies
   all_moved = so_far.moved ∙ all_taken copies k all
 
-  pub all_rebuilt : AllRebuilt lost copies patience left first now
-  all_rebuilt = record { moves = so_far.moves; all = all_moved; have = so_far.have }
-
-  pub are_rebuilt : AreRebuilt lost copies first now
+  pub are_rebuilt : AreRebuilt lost copies patience left first now
   are_rebuilt = record {
-    none = so_far.others ∙ none_left copies k all;
     moves = so_far.moves;
     all = all_moved;
+    have = so_far.have;
     stand = shown so_far;
+    none = so_far.others ∙ none_left copies k all;
+    way = so_far.way;
     fresh = λ j e less stale. (so_far.clean (get_or so_far.moves j e) (one_got so_far.moves j e less)).marked
         (or_left (is_held_stale now.core (get_or so_far.moves j e).to) (is_wanted_stale now.core (get_or so_far.moves j e).to) (or_left (is_stale now.core (get_or so_far.moves j e).to) _ stale));
   }
+
+pub if_rebuilt : (lost : List ℕ) (copies : List VolumeCopy) (patience left : ℕ) (old new : State) (answer : Result ℕ RebuildFault) → RebuildsAll lost copies patience left old new answer
+    → IfOk answer (λ count. AreRebuilt lost copies patience left old new)
+if_rebuilt lost copies patience left old new (Ok count) gives = gives.0
+if_rebuilt lost copies patience left old new (Err why) gives = tt
 
 -- ---- causes
 

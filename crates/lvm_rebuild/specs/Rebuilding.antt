@@ -1,6 +1,7 @@
 -- The copies that stand on missing disks move to spares, one after the other, and what comes of it.
-use Rattle.std.specs.Prelude.{◌≡◌, ◌⊎◌, ℕ, ◌||◌, nat_le, nat_lt, not, Bool, false, List, [], ◌∷◌, ◌++◌, length, map, Option, None, Some, is_some, if◌then◌else◌, Result, Ok, Err}
+use Rattle.std.specs.Prelude.{◌≡◌, ◌⊎◌, ℕ, ◌||◌, nat_le, nat_lt, Bool, false, List, [], ◌∷◌, ◌++◌, length, map, Option, None, Some, is_some, if◌then◌else◌, Result, Ok, Err}
 use Rattle.lvm_vol.specs.Log.{spare_entries}
+use Rattle.lvm_num.specs.Among.{IsOneOf}
 use Rattle.lvm_num.specs.declared.place.Pp.{Pp}
 use Rattle.lvm_num.specs.declared.descriptor.LvRow.{LvRow}
 use Rattle.lvm_num.specs.declared.descriptor.Descriptor.{Descriptor}
@@ -14,7 +15,8 @@ use Rattle.lvm_move_plan.specs.Standing.{listed, standing_among}
 use Rattle.lvm_migrate.specs.declared.fault.MoveFault.{MoveFault}
 use Rattle.lvm_migrate.specs.declared.fault.MoveFault.TheVariants as move
 use Rattle.lvm_migrate.specs.Migrating.{AreFreshBut, IsLeftShut, MoveCause, refusal_by}
-use Rattle.lvm_migrate.specs.Moving.{CommitGives, StopsAt}
+use Rattle.lvm_migrate.specs.Committed.{GoesCommitting, MovesAsPlanned, stages}
+use Rattle.lvm_migrate.specs.Moving.{CommitGives, StopsAt, fault_of_move}
 use Rattle.lvm_rebuild.specs.declared.fault.RebuildFault.{RebuildFault}
 use Rattle.lvm_rebuild.specs.declared.fault.RebuildFault.TheVariants as fault
 use Rattle.lvm_rebuild.specs.declared.rebuilding.RebuildPlan.{RebuildPlan}
@@ -48,11 +50,11 @@ IsPlanned core (Err why) = ((w : MoveFault) × (rebuild_refusal core ≡ Some w)
 abbrev pub move_to : VolumeCopy → Pp → PlannedMove
 move_to c pp = record { copy = c; to = pp }
 
--- Why it is the last: there is no partition for it, and nothing changes; or its move is the last.
+-- Why it is the last: there is no partition for it, and nothing changes; or its move, against which nothing stands, is the last.
 abbrev pub StopsAtCopy : List ℕ → VolumeCopy → ℕ → ℕ → State → State → RebuildFault → Type 0
 StopsAtCopy lost c patience left old new why =
     ((choice_of old.core lost c ≡ Err why) × (new ≡ old) × (left ≡ patience))
-    ⊎ ((pp : Pp) × (w : MoveFault) × (choice_of old.core lost c ≡ Ok pp) × (why ≡ fault.Move w) × StopsAt (move_to c pp) patience left old new w)
+    ⊎ ((pp : Pp) × (w : MoveFault) × (choice_of old.core lost c ≡ Ok pp) × (why ≡ fault.Move w) × (fault_of_move old.core (move_to c pp) ≡ None) × StopsAt (move_to c pp) patience left old new w)
 
 -- it has moved to the partition that is chosen for it, or is the last
 abbrev pub RebuildsOne : List ℕ → VolumeCopy → ℕ → ℕ → State → State → Result (Unit {0}) RebuildFault → Type 0
@@ -75,12 +77,18 @@ pub data HaveRebuilt (lost : List ℕ) (first : State) (patience : ℕ) : List P
 abbrev pub copies_moved : List PlannedMove → List VolumeCopy
 copies_moved moves = map (λ (m : PlannedMove). m.copy) moves
 
--- All have moved, or those before one, which is the last.
-pub record AllRebuilt (lost : List ℕ) (copies : List VolumeCopy) (patience left : ℕ) (old new : State) : Type 0 where
+-- All have moved, in order. So no volume has a partition on a member that was missing; each copy that had one is fresh, or a transfer of its disk has failed meanwhile; and what was being
+-- committed on the way are the groups in which some of them had moved.
+pub record AreRebuilt (lost : List ℕ) (copies : List VolumeCopy) (patience left : ℕ) (old new : State) : Type 0 where
   pub moves : List PlannedMove
   pub all : copies_moved moves ≡ copies
   pub have : HaveRebuilt lost old patience moves new left
+  pub stand : new.core.descriptor ≡ after_moves old.core.descriptor moves
+  pub none : standing_among new.core.descriptor None (listed lost) ≡ []
+  pub fresh : AreFreshBut moves old new
+  pub way : MovesAsPlanned moves old new
 
+-- Those before one have moved, which is the last. What was being committed on the way are the groups in which some of them had moved, or the one in which it had.
 pub record StopsRebuilding (lost : List ℕ) (copies : List VolumeCopy) (patience left : ℕ) (old new : State) (why : RebuildFault) : Type 0 where
   pub moves : List PlannedMove
   pub one : VolumeCopy
@@ -90,9 +98,11 @@ pub record StopsRebuilding (lost : List ℕ) (copies : List VolumeCopy) (patienc
   pub before : ℕ
   pub have : HaveRebuilt lost old patience moves mid before
   pub stops : StopsAtCopy lost one before left mid new why
+  pub stand : new.core.descriptor ≡ after_moves old.core.descriptor moves
+  pub way : GoesCommitting (λ (k : Descriptor). IsOneOf (stages old.core.descriptor moves) k ⊎ IsGroupAfter lost one mid.core k) old new
 
 abbrev pub RebuildsAll : List ℕ → List VolumeCopy → ℕ → ℕ → State → State → Result ℕ RebuildFault → Type 0
-RebuildsAll lost copies patience left old new (Ok count) = AllRebuilt lost copies patience left old new × (count ≡ length copies)
+RebuildsAll lost copies patience left old new (Ok count) = AreRebuilt lost copies patience left old new × (count ≡ length copies)
 RebuildsAll lost copies patience left old new (Err why) = StopsRebuilding lost copies patience left old new why
 
 -- nothing changes
@@ -117,14 +127,6 @@ pub record StandRebuilt (copies : List VolumeCopy) (d new : Descriptor) : Type 0
 -- the group but for where its copies stand
 abbrev pub unplaced : Descriptor → Descriptor
 unplaced d = record d { lvs = map (λ (row : LvRow). record row { map = [] }) d.lvs }
-
--- No volume has a partition on a member that was missing, and each of the copies that had one is fresh, or a transfer of its disk has failed meanwhile.
-pub record AreRebuilt (lost : List ℕ) (copies : List VolumeCopy) (old new : State) : Type 0 where
-  pub none : standing_among new.core.descriptor None (listed lost) ≡ []
-  pub moves : List PlannedMove
-  pub all : copies_moved moves ≡ copies
-  pub stand : new.core.descriptor ≡ after_moves old.core.descriptor moves
-  pub fresh : AreFreshBut moves old new
 
 -- no copy is left open where the session goes on, unless nothing was heard of a transfer
 abbrev pub IsLeftShutBy : {A : Type 0} → Core → Result A RebuildFault → Type 0

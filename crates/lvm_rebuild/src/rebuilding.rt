@@ -157,7 +157,6 @@ fn rebuild_all<S: Shelf>(
     requires copies { standing_among driver.old.1.descriptor None (listed lost.now) ≡ copies.now }
     ensures rebuilds { RebuildsAll lost.now copies.now patience.old.left patience.new.left (state_of S.device driver.old) (state_of S.device driver.new) result }
     ensures stand { StandRebuilt copies.now driver.old.1.descriptor driver.new.1.descriptor }
-    ensures rebuilt { IfOk result (λ count. AreRebuilt lost.now copies.now (state_of S.device driver.old) (state_of S.device driver.new)) }
     ensures closed { IsLeftShutBy driver.new.1 result }
     ensures caused { IfErr result (RebuildCause patience.old.left (state_of S.device driver.old) (state_of S.device driver.new)) }
     ensures beside { GoesBesideMoving (state_of S.device driver.old) (state_of S.device driver.new) patience.old.left patience.new.left }
@@ -187,7 +186,7 @@ pub fn rebuild<S: Shelf>(
     ensures gives { RebuildGives patience.old.left patience.new.left (state_of S.device driver.old) (state_of S.device driver.new) result }
     ensures stand { StandRebuilt (lost_copies driver.old.1) driver.old.1.descriptor driver.new.1.descriptor }
     ensures alike { unplaced driver.new.1.descriptor ≡ unplaced driver.old.1.descriptor }
-    ensures rebuilt { IfOk result (λ count. AreRebuilt (lost_members driver.old.1) (lost_copies driver.old.1) (state_of S.device driver.old) (state_of S.device driver.new)) }
+    ensures rebuilt { IfOk result (λ count. AreRebuilt (lost_members driver.old.1) (lost_copies driver.old.1) patience.old.left patience.new.left (state_of S.device driver.old) (state_of S.device driver.new)) }
     ensures closed { driver.old.1.copy ≡ None → IsLeftShutBy driver.new.1 result }
     ensures caused { IfErr result (RebuildCause patience.old.left (state_of S.device driver.old) (state_of S.device driver.new)) }
     ensures beside { GoesBesideMoving (state_of S.device driver.old) (state_of S.device driver.new) patience.old.left patience.new.left }

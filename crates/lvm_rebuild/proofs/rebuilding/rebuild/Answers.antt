@@ -1,7 +1,6 @@
-use Rattle.std.proofs.Common.{◌≡◌, ◌⊎◌, inl, inr, ℕ, List, refl, ap, sym, subst, ◌∙◌}
-use Rattle.std.specs.Prelude.{Err, IfOk, None}
+use Rattle.std.proofs.Common.{◌≡◌, ℕ, List, refl, ap, sym, subst, ◌∙◌}
+use Rattle.std.specs.Prelude.{None}
 use Rattle.std.proofs.lemmas.Result.{err_from_is_err_and}
-use Rattle.lvm_num.specs.declared.descriptor.Descriptor.{Descriptor}
 use Rattle.lvm_session.specs.State.{State, state_of}
 use Rattle.lvm_move_plan.specs.declared.standing.VolumeCopy.{VolumeCopy}
 use Rattle.lvm_move_plan.specs.Standing.{listed, standing_among}
@@ -9,8 +8,8 @@ use Rattle.lvm_migrate.specs.Committed.{GoesCommitting}
 use Rattle.lvm_migrate.proofs.BesideLemmas.{beside_none}
 use Rattle.lvm_migrate.proofs.WayLemmas.{going_none}
 use Rattle.lvm_rebuild.specs.Choosing.{lost_copies, lost_members}
-use Rattle.lvm_rebuild.specs.Rebuilding.{AreRebuilt, Rebuilds, RebuildsAll, StandRebuilt}
-use Rattle.lvm_rebuild.proofs.RebuildingLemmas.{may_begin, refused_cause, refused_gives, shut_by, stand_alike, stand_none}
+use Rattle.lvm_rebuild.specs.Rebuilding.{Rebuilds, RebuildsAll, StandRebuilt}
+use Rattle.lvm_rebuild.proofs.RebuildingLemmas.{if_rebuilt, may_begin, refused_cause, refused_gives, shut_by, stand_alike, stand_none}
 use Rattle.lvm_rebuild.proofs.rebuilding.rebuild.Goals as goal
 
 pub returns-in_err-plan : goal.returns-in_err-plan
@@ -50,12 +49,13 @@ returns g c =
     let answer = c.rebuild_all.result in
     let lost : c.as_slice.result.now ≡ lost_members old.core = c.as_slice.ensures ∙ c.in_ok-plan.ensures.1 in
     let copies : c.as_slice-2.result.now ≡ lost_copies old.core = c.as_slice-2.ensures ∙ c.in_ok-plan.ensures.2 in
+    let rebuilds : RebuildsAll (lost_members old.core) (lost_copies old.core) p q old new answer = subst (λ (l : List ℕ). RebuildsAll l (lost_copies old.core) p q old new answer) lost (subst (λ (k : List VolumeCopy). RebuildsAll c.as_slice.result.now k p q old new answer) copies c.rebuild_all.ensures.rebuilds) in
     let stand : StandRebuilt (lost_copies old.core) old.core.descriptor new.core.descriptor = subst (λ (l : List VolumeCopy). StandRebuilt l old.core.descriptor new.core.descriptor) copies c.rebuild_all.ensures.stand in
     record {
-      gives = Rebuilds c.in_ok-plan.ensures.0 (subst (λ (l : List ℕ). RebuildsAll l (lost_copies old.core) p q old new answer) lost (subst (λ (k : List VolumeCopy). RebuildsAll c.as_slice.result.now k p q old new answer) copies c.rebuild_all.ensures.rebuilds));
+      gives = Rebuilds c.in_ok-plan.ensures.0 rebuilds;
       stand = stand;
       alike = stand_alike (lost_copies old.core) old.core.descriptor new.core.descriptor stand;
-      rebuilt = subst (λ (l : List ℕ). IfOk answer (λ count. AreRebuilt l (lost_copies old.core) old new)) lost (subst (λ (k : List VolumeCopy). IfOk answer (λ count. AreRebuilt c.as_slice.result.now k old new)) copies c.rebuild_all.ensures.rebuilt);
+      rebuilt = if_rebuilt (lost_members old.core) (lost_copies old.core) p q old new answer rebuilds;
       closed = λ shut. c.rebuild_all.ensures.closed;
       caused = c.rebuild_all.ensures.caused;
       beside = c.rebuild_all.ensures.beside;

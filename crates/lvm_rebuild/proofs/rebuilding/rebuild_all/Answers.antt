@@ -1,9 +1,9 @@
-use Rattle.std.proofs.Common.{ℕ, length, refl, ap, sym, ◌∙◌, ◌≤◌, arith}
+use Rattle.std.proofs.Common.{ℕ, length, refl, ◌≤◌, arith}
 use Rattle.std.proofs.lemmas.Result.{err_from_is_err_and}
 use Rattle.lvm_session.specs.State.{State, state_of}
 use Rattle.lvm_move_plan.specs.declared.standing.VolumeCopy.{VolumeCopy}
 use Rattle.lvm_migrate.proofs.BesideLemmas.{beside_both}
-use Rattle.lvm_rebuild.proofs.RebuildingLemmas.{all_rebuilt, are_rebuilt, none_so_far, one_more, rebuild_cause_since, shut_as, stand_here, stand_so_far, stands_next, stops_here, way_next}
+use Rattle.lvm_rebuild.proofs.RebuildingLemmas.{are_rebuilt, none_so_far, one_more, rebuild_cause_since, shut_as, stand_here, stand_so_far, stands_next, stops_here, way_next, way_so_far}
 use Rattle.lvm_rebuild.proofs.rebuilding.rebuild_all.Goals as goal
 
 abbrev none : VolumeCopy
@@ -44,9 +44,8 @@ returns-in_err-rebuild_one g c =
     let k = c.loop-copy.copy-index in
     let f = err_from_is_err_and c.from_residual.result c.from_residual.ensures.1 in
     rw (f.1, f.2) (record {
-      rebuilds = stops_here c.args.lost.now first old p q c.args.copies.now k none c.loop-copy-test.true inv r new why c.in_err-rebuild_one.ensures.rebuilds;
+      rebuilds = stops_here c.args.lost.now first old p q c.args.copies.now k none c.loop-copy-test.true inv r new why c.in_err-rebuild_one.ensures.rebuilds c.in_err-rebuild_one.ensures.stays c.rebuild_one.ensures.beside.counts c.rebuild_one.ensures.way;
       stand = stand_here c.args.lost.now first old p q c.args.copies.now k inv new.core.descriptor c.in_err-rebuild_one.ensures.stays;
-      rebuilt = tt;
       closed = shut_as (Unit {0}) ℕ new.core why c.in_err-rebuild_one.ensures.closed;
       caused = rebuild_cause_since first old new p q why inv.later inv.beside c.in_err-rebuild_one.ensures.caused;
       beside = beside_both first old new p q r inv.beside c.rebuild_one.ensures.beside;
@@ -64,11 +63,10 @@ returns g c =
     let k = c.loop-copy.copy-index in
     let all : length c.args.copies.now ≤ k = omega arith in
     record {
-      rebuilds = (all_rebuilt c.args.lost.now first now p q c.args.copies.now k inv all, refl);
+      rebuilds = (are_rebuilt c.args.lost.now first now p q c.args.copies.now k inv all, refl);
       stand = stand_so_far c.args.lost.now first now p q c.args.copies.now k inv;
-      rebuilt = are_rebuilt c.args.lost.now first now p q c.args.copies.now k inv all;
       closed = (inv.on, inv.shut);
       caused = tt;
       beside = inv.beside;
-      way = inv.way;
+      way = way_so_far c.args.lost.now first now p q c.args.copies.now k inv;
     }

@@ -1,5 +1,4 @@
-use Rattle.std.proofs.Common.{◌≡◌, inl, inr, refl, sym, ap, ◌∙◌}
-use Rattle.std.specs.Prelude.{Err}
+use Rattle.std.proofs.Common.{◌≡◌, inl, inr, refl, sym, ◌∙◌}
 use Rattle.std.proofs.lemmas.Result.{err_from_is_err_and}
 use Rattle.lvm_num.specs.declared.descriptor.Descriptor.{Descriptor}
 use Rattle.lvm_session.specs.declared.open.Power.TheVariants as power
@@ -8,7 +7,7 @@ use Rattle.lvm_move_plan.specs.Laws.{after_move}
 use Rattle.lvm_migrate.proofs.BesideLemmas.{beside_none}
 use Rattle.lvm_migrate.proofs.WayLemmas.{going_none, going_some}
 use Rattle.lvm_rebuild.specs.Rebuilding.{IsGroupAfter, move_to}
-use Rattle.lvm_rebuild.proofs.ChoosingLemmas.{chosen, copy_within, may_stand}
+use Rattle.lvm_rebuild.proofs.ChoosingLemmas.{chosen, copy_within, may_stand, none_against}
 use Rattle.lvm_rebuild.proofs.RebuildingLemmas.{choice_cause, move_cause, shut_by}
 use Rattle.lvm_rebuild.proofs.rebuilding.rebuild_one.Goals as goal
 
@@ -62,7 +61,7 @@ returns-in-Err g c =
     let new : State = state_of g.S.Shelf.device c.move_one.new.driver in
     let to = c.in_ok-to.to in
     record {
-      rebuilds = inr (to, c.in-Err.why, c.in_ok-to.ensures.chosen, refl, c.in-Err.ensures.moves);
+      rebuilds = inr (to, c.in-Err.why, c.in_ok-to.ensures.chosen, refl, none_against core c.args.lost.now c.args.copy to (chosen core c.args.lost.now c.args.copy to c.in_ok-to.ensures.chosen) c.requires.stands c.is_sound.ensures.fitting.valid c.requires.on c.requires.none, c.in-Err.ensures.moves);
       closed = c.in-Err.ensures.closed;
       way = going_some (λ (k : Descriptor). k ≡ after_move core.descriptor (move_to c.args.copy to)) (IsGroupAfter c.args.lost.now c.args.copy core) (λ k is. (to, c.in_ok-to.ensures.chosen, is)) old new c.move_one.ensures.way;
       stays = c.in-Err.ensures.stays;
