@@ -8,12 +8,7 @@ use lvm_num::{Descriptor, Memory, PvRow, Rows, clone_descriptor};
 use std::alloc::Global;
 
 /// The group in which the member on this disk is a spare, or none.
-pub fn with_spare(
-    alloc: Global,
-    d: &Descriptor,
-    disk: u16,
-    on: bool,
-) -> Result<Descriptor, Memory>
+pub fn with_spare(alloc: Global, d: &Descriptor, disk: u16, on: bool) -> Result<Descriptor, Memory>
     requires { IsValid d.now }
     ensures next { IfOk result (λ next. next ≡ with_spare disk on d.now) }
     ensures valid { IfOk result IsValid }
@@ -26,12 +21,7 @@ pub fn with_spare(
 }
 
 // The members, of which the one on this disk is a spare, or none.
-fn marked_rows(
-    alloc: Global,
-    rows: &[PvRow],
-    disk: u16,
-    on: bool,
-) -> Result<Vec<PvRow>, Memory>
+fn marked_rows(alloc: Global, rows: &[PvRow], disk: u16, on: bool) -> Result<Vec<PvRow>, Memory>
     ensures { IfOk result (λ pvs. pvs.items ≡ map (marked disk on) rows.now) }
 {
     let mut pvs = Vec::new(alloc);

@@ -194,5 +194,11 @@ pub fn rebuild<S: Shelf>(
 {
     driver.is_sound();
     let plan = plan(driver, alloc)?;
-    rebuild_all(driver, alloc, plan.lost.as_slice(), plan.copies.as_slice(), patience)
+    rebuild_all(
+        driver,
+        alloc,
+        plan.lost.as_slice(),
+        plan.copies.as_slice(),
+        patience,
+    )
 }

@@ -72,7 +72,6 @@ module _ (old : State) (d : Descriptor) (u : Stored) (homes : Homes) (cache : Ca
       let same_disk : had.was.disk ≡ row.disk = ap (λ (r : PvRow). r.disk) had.same in
       let its = same_placed had.was row had.same (sound.placed had.was had.inside (ap (calls_missing old.core.status.wanted) same_disk ∙ fits.fewer row.disk (is_inside d.pvs row inside) there)) in
       subst (λ (sizes : List ℕ). IsPlaced sizes d.mib row) (sym fits.same) (subst (λ (mib : ℕ). IsPlaced old.device.sizes mib row) (sym fits.mib) its)
-
     where
       -- it is placed whether it is a spare or not
       same_placed : (a b : PvRow) → unspared_row a ≡ unspared_row b → IsPlaced old.device.sizes old.core.descriptor.mib a → IsPlaced old.device.sizes old.core.descriptor.mib b

@@ -19,7 +19,7 @@ returns-then-serves g c =
     let row : PvRow = get_or rows c.loop-row.row-index no_row in
     let rows_are : core.descriptor.pvs ≡ rows = sym (c.as_slice-row-items.ensures ∙ ap (λ (d : Descriptor). d.pvs) c.descriptor-d.ensures.same) in
     let found : find (serves core c.args.lost.now c.args.copy) core.descriptor.pvs ≡ Some row = ap (find (serves core c.args.lost.now c.args.copy)) rows_are
-        ∙ find_here (serves core c.args.lost.now c.args.copy) rows c.loop-row.row-index no_row (omega arith) c.loop-row.invariant (sym c.serves.ensures ∙ c.if-serves.true) in
+    ∙ find_here (serves core c.args.lost.now c.args.copy) rows c.loop-row.row-index no_row (omega arith) c.loop-row.invariant (sym c.serves.ensures ∙ c.if-serves.true) in
     c.lowest_free.ensures ∙ ap (λ (d : Descriptor). lowest_free (partitions_used d) row) c.descriptor-d.ensures.same
     ∙ sym (ap (λ (o : Option PvRow). option_map_or (lowest_free (partitions_used core.descriptor)) o None) found)
 
