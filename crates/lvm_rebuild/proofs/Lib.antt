@@ -1,3 +1,4 @@
 pub mod ChoosingLemmas
 pub mod RebuildingLemmas
 pub mod WorkedLemmas
+pub mod EndsLemmas

@@ -139,3 +139,16 @@ abbrev pub RebuildCause : ℕ → State → State → RebuildFault → Type 0
 RebuildCause patience old new (fault.Move move.HistoryFull) = (has_numbers new.core ≡ false) ⊎ (has_entries new.core ≡ false)
 RebuildCause patience old new (fault.Move why) = MoveCause patience old new why
 RebuildCause patience old new (fault.NoSpare lp) = Unit {0}
+
+-- ---- what ends it
+
+-- of the faults of moves these don't
+abbrev pub IsOfRebuilding : RebuildFault → Type 0
+IsOfRebuilding (fault.Move (move.Missing disk)) = ⊥
+IsOfRebuilding (fault.Move (move.Strict lp)) = ⊥
+IsOfRebuilding (fault.Move (move.NoRoom free)) = ⊥
+IsOfRebuilding why = Unit {0}
+
+-- So it is whatever happens.
+abbrev pub RebuildsEndSo : Type 0
+RebuildsEndSo = (patience left : ℕ) (old new : State) (why : RebuildFault) → RebuildGives patience left old new (Err why) → IsOfRebuilding why
