@@ -8,14 +8,14 @@ import os, re
 ROOT = os.path.dirname(os.path.dirname(os.path.abspath(__file__)))
 
 COLUMNS = [
-    ("When it may be made", ["lvm_session", "lvm_calls"]),
-    ("What it makes", ["lvm_session", "lvm_calls"]),
-    ("Without bytes", ["lvm_invariant"]),
+    ("When it may be made", ["lvm_session", "lvm_calls", "lvm_move_keeps"]),
+    ("What it makes", ["lvm_session", "lvm_calls", "lvm_move"]),
+    ("Without bytes", ["lvm_invariant", "lvm_places"]),
     ("Found by", ["lvm_due", "lvm_moves", "lvm_session_turn"]),
-    ("Made by", ["lvm_moves", "lvm_session_turn", "lvm_calls"]),
-    ("Stays sound", ["lvm_keeps", "lvm_keeps_events"]),
+    ("Made by", ["lvm_moves", "lvm_session_turn", "lvm_calls", "lvm_move"]),
+    ("Stays sound", ["lvm_keeps", "lvm_keeps_events", "lvm_move_keeps"]),
     ("Less work", ["lvm_keeps", "lvm_keeps_events"]),
-    ("Tied", ["lvm_tie"]),
+    ("Tied", ["lvm_tie", "lvm_move_tie"]),
 ]
 
 # an event, and for each column the names, or nothing where the event has no such place
@@ -38,6 +38,7 @@ ROWS = [
     ("an answer is taken", "", "TakeGives", "TakesAnswerOf TakesEarlier", "", "take", "take_keeps", "", "take_ties"),
     ("a copy is opened", "copy_fault", "OpenGives", "Opens", "", "open_copy", "open_keeps", "", "open_ties"),
     ("a copy begins to move", "move_fault", "OpenMoveGives", "Opens", "", "open_move", "open_move_keeps", "", "open_move_ties"),
+    ("a move is committed", "IsDrainedMoving", "CommitsMove", "Replaces", "", "commit_move", "move_keeps_sound", "", "move_ties"),
     ("a copy is closed", "", "closed", "", "", "close_copy", "close_keeps", "", "close_ties"),
     ("an order to the shelf", "", "ArrangesSession", "", "", "arrange", "order_keeps", "", "orders_tie"),
 ]

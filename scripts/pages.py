@@ -4,8 +4,8 @@
     pages.py [PAGE ..]              all four checks below; a line for each thing that is wrong, status 1 if there is any
     pages.py examples [PAGE ..]     runs each example of the pages and compares what it prints
     pages.py examples --write ..    writes what the program prints into the examples
-    pages.py examples --try ..      runs those of `lvm sim` alone, by `rt try`: without a proof, in a few minutes
-    pages.py names [PAGE ..]        looks up each file and each name in backticks
+    pages.py examples --try ..      runs those over disks in memory alone, by `rt try`: without a proof, in a few minutes
+    pages.py names [PAGE ..]        looks up each file and each name in backticks, and what each wrong body changes
     pages.py sentences [PAGE ..]    lists sentences of more than 30 words, and the median of each page
     pages.py tables                 compares the tables and the numbers that scripts make; --write makes them anew
 
@@ -18,7 +18,7 @@ lines behind `$ lvm sim ..` begin with `> `, these are the script, and under eac
 
 LVM names the program; without it crates/lvm/out/lvm is taken, which `rt run` builds.
 """
-import os, re, statistics, subprocess, sys, tempfile
+import functools, os, re, statistics, subprocess, sys, tempfile
 
 ROOT = os.path.dirname(os.path.dirname(os.path.abspath(__file__)))
 LVM = os.path.abspath(os.environ.get("LVM") or f"{ROOT}/crates/lvm/out/lvm")
@@ -138,7 +138,7 @@ def examples(pages, write):
 
 
 def sim_runs(body):
-    """The runs of `lvm sim` of a block: the words, the script, and what stands under it; and how many other commands it has."""
+    """The runs over disks in memory of a block: the words, the script, and what stands under it; and how many other commands it has."""
     runs, others, at = [], 0, 0
     while at < len(body):
         command, end = body[at][2:], at + 1
@@ -151,6 +151,10 @@ def sim_runs(body):
             runs.append((of_file[1].split(), lines, [it[wide:] for it in rows if it[wide:]]))
         elif re.fullmatch(r"lvm sim \d+ \d+", command) and any(it.startswith(">") for it in rows):
             runs.append((command.split()[1:], [it[2:] for it in rows if it.startswith(">")], [it for it in rows if not it.startswith(">")]))
+        elif piped := re.fullmatch(r"printf '([^']*)' \| lvm (sim \d+ \d+)", command):
+            runs.append((piped[2].split(), piped[1].replace("\\n", "\n").splitlines(), rows))
+        elif drawn := re.fullmatch(r"lvm ((?:gen|weave)(?: \d+)+)(; echo status \$\?)?", command):
+            runs.append((drawn[1].split(), [], rows[:-1] if drawn[2] else rows))
         else:
             others += 1
         at = end
@@ -158,7 +162,7 @@ def sim_runs(body):
 
 
 def try_examples(pages):
-    """Runs what the examples have of `lvm sim` by `rt try`, which checks the types and builds once, and proves nothing."""
+    """Runs what the examples have over disks in memory by `rt try`, which checks the types and builds once, and proves nothing."""
     count, others, bad = 0, 0, []
     with tempfile.TemporaryDirectory() as folder:
         for page in pages:
@@ -178,7 +182,7 @@ def try_examples(pages):
         print(ran.stdout, end="")
         if ran.returncode:
             bad.append(f"examples: rt try ended with status {ran.returncode}")
-    print(f"examples: {count} run of `lvm sim`, {others} other commands not")
+    print(f"examples: {count} run over disks in memory, {others} other commands not")
     return bad
 
 
@@ -240,6 +244,31 @@ def names(pages):
                 for name in re.findall(r"`(\w+)`", "".join(group)):
                     if found and not re.search(rf"\b{name}\b", text):
                         bad.append(f"{page}:{number}: {name} isn't in {path}")
+    return bad
+
+
+def edits():
+    """Wrong bodies whose text doesn't stand just once where it is changed, or that the README of their crate doesn't name."""
+    bad = []
+    for folder in sorted(list(edits_under("crates")) + list(edits_under("scripts/wrong-bodies"))):
+        crate = folder.split("/")[-2] if folder.endswith("/must-fail") else folder.split("/")[-1]
+        page = read(f"crates/{crate}/README.md") if os.path.exists(f"{ROOT}/crates/{crate}/README.md") else ""
+        for name in sorted(os.listdir(folder)):
+            if not name.endswith(".edit"):
+                continue
+            path = os.path.relpath(f"{folder}/{name}", ROOT)
+            text = read(path)
+            file = re.search(r"^file: (.*)$", text, re.M)
+            if not file or not os.path.exists(f"{ROOT}/crates/{crate}/{file[1]}"):
+                bad.append(f"{path}: no file {file[1] if file else ''}")
+                continue
+            code = read(f"crates/{crate}/{file[1]}")
+            for lines in re.findall(r"((?:^old:.*\n)+)", text, re.M):
+                old = "\n".join(it[5:] for it in lines.rstrip("\n").split("\n"))
+                if code.count(old) != 1:
+                    bad.append(f"{path}: stands {code.count(old)} times: {old.strip()[:80]}")
+            if f"`{name[:-5]}`" not in page:
+                bad.append(f"{path}: crates/{crate}/README.md doesn't name it")
     return bad
 
 
@@ -421,12 +450,26 @@ def ways():
     return sum(from_here(it) for it in deps)
 
 
+def behind(module, name):
+    """How many definitions one rests on, itself among them, and of how many lines, comments and types of the code aside."""
+    from plain import Specs
+    specs, seen, todo = Specs(set()), set(), [(module, name)]
+    while todo:
+        at = todo.pop()
+        if at not in seen:
+            seen.add(at)
+            todo += specs.below(*at)
+    return len(seen), sum(bool(line.strip()) for of, it in seen for line in specs.load(of)[2][it].split("\n"))
+
+
 NUMBER_WORDS = ["no", "one", "two", "three", "four", "five", "six", "seven", "eight", "nine", "ten"]
 
 
+@functools.lru_cache(None)
 def numbers_wanted():
     must, tried, deps = edits_under("crates"), edits_under("scripts/wrong-bodies"), graph()
     return [
+        (r"`UpholdsPlainly` in `lvm_top/specs/Plain.antt`. It rests on (\d+) definitions of (\d+) lines", list(behind("Rattle.lvm_top.specs.Plain", "UpholdsPlainly"))),
         (r"(\d+) edits stand under `must-fail/` of (\w+) crates", [sum(must.values()), NUMBER_WORDS[len(must)]]),
         (r"(\d+) wrong bodies of (\d+) crates stand under", [sum(tried.values()), len(tried)]),
         (r"With (\d+) crates and (\d+) names of them in these lines there are ([\d,]+) ways", [len(deps), sum(it in deps for below in deps.values() for it in below), f"{ways():,}"]),
@@ -494,7 +537,7 @@ def main(words):
     if kind in (None, "examples"):
         bad += try_examples(pages) if by_try else examples(pages, write)
     if kind in (None, "names"):
-        bad += names(pages)
+        bad += names(pages) + edits()
     if kind in (None, "sentences"):
         bad += sentences(pages)
     print("\n".join(bad) if bad else "pages: nothing is wrong")

@@ -1,6 +1,6 @@
 """The records of docs/FORMATS.md, read and written apart from the program, and what `varyonvg` has to make of images.
 
-The rules are written anew from docs/FORMATS.md and docs/LANGUAGE.md, and share nothing with the program.
+The rules are written anew from docs/FORMATS.md and docs/COMMANDS.md, and share nothing with the program.
 """
 
 import struct

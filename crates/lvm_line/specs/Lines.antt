@@ -100,7 +100,6 @@ IsLeftToDo (Ok (Some (command.Lspv disk))) = ⊥
 IsLeftToDo (Ok (Some (command.Rd name at count))) = ⊥
 IsLeftToDo (Ok (Some (command.Wr name at count word))) = ⊥
 IsLeftToDo (Ok (Some (command.Post name at count word))) = ⊥
-IsLeftToDo (Ok (Some (command.Migratepv volume from to))) = ⊥
 IsLeftToDo (Ok (Some (command.Step turns))) = ⊥
 IsLeftToDo (Ok (Some (command.SyncVolume name))) = ⊥
 IsLeftToDo (Ok (Some (command.SyncGroup name))) = ⊥

@@ -190,9 +190,6 @@ fn serve<S: Shelf>(alloc: Global, stage: &mut Stage<S>, command: Command) -> Opt
             word,
         } => Some(do_post(stage, name, at, count, word)),
         Command::Step { turns } => Some(do_step(stage, turns)),
-        Command::Migratepv { volume, from, to } => {
-            Some(do_migratepv(alloc, stage, volume, from, to))
-        }
         Command::SyncVolume { name } => Some(do_sync_volume(stage, name)),
         Command::SyncGroup { name } => Some(do_sync_group(stage, name)),
         Command::Fail { disk } => Some(do_arrange(stage, disk, Arrange::Fail(disk))),
@@ -224,7 +221,7 @@ fn behind<S: Shelf>(stage: &Stage<S>, reply: Reply) -> InPlace
 }
 
 /// Does a line, without its line feed, where the stage stays: one without a command, one that isn't in the language, a
-/// listing, a range of a volume that is read, written or posted, turns that are made, copies that are brought up or moved, and a
+/// listing, a range of a volume that is read, written or posted, turns that are made, copies that are brought up, and a
 /// disk that is made to fail or to heal. Other commands are left to `do_line`.
 pub fn answer_line<S: Shelf>(alloc: Global, stage: &mut Stage<S>, line: &[u8]) -> InPlace
     requires between { IsBetweenStage S.device stage.old }

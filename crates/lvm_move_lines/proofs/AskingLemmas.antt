@@ -2,7 +2,6 @@
 use Rattle.std.proofs.Common.{◌≡◌, ◌≢◌, ℕ, Bool, true, false, List, Option, Some, None, if◌then◌else◌, refl, subst}
 use Rattle.std.specs.Prelude.{IsSome}
 use Rattle.lvm_num.specs.declared.descriptor.Descriptor.{Descriptor}
-use Rattle.lvm_num.specs.declared.descriptor.LvRow.{LvRow}
 use Rattle.lvm_num.specs.Descriptor.{is_member, volume_of}
 use Rattle.lvm_migrate.specs.Migrating.{MayMigrate}
 use Rattle.lvm_range_lines.proofs.passed.GroupLines.{there}

@@ -14,14 +14,14 @@ use Rattle.lvm_num.specs.declared.descriptor.Descriptor.{Descriptor}
 use Rattle.lvm_move_lines.proofs.MovingLemmas.{empty_few, empty_heard}
 
 -- something is heard of what isn't asked for
-not_asked_heard : (d : Descriptor) (volume : Option (List ℕ)) (from to : ℕ) (why : Refusal) → IsNotAsked d volume from to why → is_unheard (reply.Refused why) ≡ false
+pub not_asked_heard : (d : Descriptor) (volume : Option (List ℕ)) (from to : ℕ) (why : Refusal) → IsNotAsked d volume from to why → is_unheard (reply.Refused why) ≡ false
 not_asked_heard d volume from to (refusal.NoDisk disk) it = refl
 not_asked_heard d volume from to refusal.NoVolume it = refl
 not_asked_heard d volume from to why it = absurd it
 
 module _ {S : Type 0} (device : S → Device) (volume : Option (List ℕ)) (from to : ℕ) (stage : Stage S) (fits : IsFittingStage stage) (between : IsBetweenStage device stage) (driver : S × Core) (is : stage.holder ≡ holder.Empty driver)
     (new : Stage S) (answer : Reply) where
-  core : Core
+  abbrev core : Core
   core = driver.1
 
   still : is_unheard answer ≡ false → IsLeftBy device (held_by stage (holder.Empty driver)) answer new → new ≡ held_by stage (holder.Empty driver)

@@ -18,13 +18,13 @@ use Rattle.lvm_range_lines.specs.passed.Tie.{IsCommittedOn, IsNextOf}
 use Rattle.lvm_move_lines.specs.Moving.{IsMigrated, MayHaveMoved, move_reply}
 
 -- what holds of each of two lists holds of each of either
-front_holds : {X : Type 0} {P : X → Type 0} (xs ys : List X) → AllByRecursion P (xs ++ ys) → AllByRecursion P xs
-front_holds [] ys all = tt
-front_holds (x ∷ xs) ys all = (all.0, front_holds xs ys all.1)
+front_holds : {X : Type 0} (P : X → Type 0) (xs ys : List X) → AllByRecursion P (xs ++ ys) → AllByRecursion P xs
+front_holds P [] ys all = tt
+front_holds P (x ∷ xs) ys all = (all.0, front_holds P xs ys all.1)
 
-rest_holds : {X : Type 0} {P : X → Type 0} (xs ys : List X) → AllByRecursion P (xs ++ ys) → AllByRecursion P ys
-rest_holds [] ys all = all
-rest_holds (x ∷ xs) ys all = rest_holds xs ys all.1
+rest_holds : {X : Type 0} (P : X → Type 0) (xs ys : List X) → AllByRecursion P (xs ++ ys) → AllByRecursion P ys
+rest_holds P [] ys all = all
+rest_holds P (x ∷ xs) ys all = rest_holds P xs ys all.1
 
 module _ (Is : Descriptor → Type 0) (k : Descriptor) where
   next_is : {old new : State} (step : MovingStep old new) → AllByRecursion Is (next_on step) → IsNextOf step k → Is k
@@ -34,8 +34,8 @@ module _ (Is : Descriptor → Type 0) (k : Descriptor) where
 
   pub one_is : {first last : State} (path : LeavesMoving first last) → AllByRecursion Is (committed_on path) → IsCommittedOn path k → Is k
   one_is (Here any) all it = absurd it
-  one_is (Then path step any) all (inl before) = one_is path (front_holds (committed_on path) (next_on step) all) before
-  one_is (Then path step any) all (inr next) = next_is step (rest_holds (committed_on path) (next_on step) all) next
+  one_is (Then path step any) all (inl before) = one_is path (front_holds Is (committed_on path) (next_on step) all) before
+  one_is (Then path step any) all (inr next) = next_is step (rest_holds Is (committed_on path) (next_on step) all) next
 
 pub is_planned : (moves : List PlannedMove) (old new : State) (way : MovesAsPlanned moves old new) (k : Descriptor) → IsCommittedOn way.leaves k → IsOneOf (stages old.core.descriptor moves) k
 is_planned moves old new way k it = one_is (IsOneOf (stages old.core.descriptor moves)) k way.leaves way.planned it

@@ -1,3 +1,4 @@
+pub mod passed
 pub mod AskingLemmas
 pub mod EmptyLemmas
 pub mod MovingLemmas

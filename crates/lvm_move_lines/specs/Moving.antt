@@ -1,6 +1,8 @@
 -- What `migratepv` does.
 use Rattle.std.specs.Prelude.{◌≡◌, ◌≢◌, ℕ, List, [], Option, Some, None, Result, Ok, Err, IfErr, IfOk, if◌then◌else◌}
+use Rattle.std.specs.Global.{Vec}
 use Rattle.lvm_num.specs.Status.{calls_missing}
+use Rattle.lvm_disk.specs.Device.{Device}
 use Rattle.lvm_session.specs.declared.open.Power.TheVariants as power
 use Rattle.lvm_session.specs.Calls.{has_numbers}
 use Rattle.lvm_session.specs.Sound.{IsSound}
@@ -10,7 +12,7 @@ use Rattle.lvm_migrate.specs.declared.fault.MoveFault.{MoveFault}
 use Rattle.lvm_migrate.specs.declared.fault.MoveFault.TheVariants as fault
 use Rattle.lvm_migrate.specs.Migrating.{AreFreshBut, GoesBesideMoving, IsLeftEmpty, MigrateGives, MoveCause, StandMoved}
 use Rattle.lvm_migrate.specs.Committed.{MovesAsPlanned}
-use Rattle.lvm_range_lines.specs.Leaving.{FailsIf, session_over}
+use Rattle.lvm_range_lines.specs.Leaving.{EndsInSession, FailsIf, session_over}
 use Rattle.lvm_range_lines.specs.passed.GroupLines.{IsRefused, Refusal, Reply, ScriptState, is_unheard, patience_of_line}
 use Rattle.lvm_range_lines.specs.passed.RefusalVariants as refusal
 use Rattle.lvm_range_lines.specs.passed.ReplyVariants as reply
@@ -92,3 +94,10 @@ pub data MigratepvDoes (volume : Option (List ℕ)) (from to : ℕ) (old new : S
       → MigratepvDoes volume from to old new answer
   MovesCopies : (core : Core) (lv : Option ℕ) → old.session ≡ Some core → IsAsked core.descriptor volume from to lv → core.descriptor.lvs ≢ [] → IsMigrated lv from to core old new answer
       → MigratepvDoes volume from to old new answer
+
+-- ---- stages
+
+-- The copies that were asked for move in this session, whatever volume was named for them, and whatever posts stand there.
+abbrev pub MovesInSession : {S : Type 0} → (S → Device) → Option ℕ → ℕ → ℕ → S × Core → S × Core → Reply → Type 0
+MovesInSession device lv from to old new answer =
+    (volume : Option (List ℕ)) → IsAsked old.1.descriptor volume from to lv → (bytes : Vec ℕ) → EndsInSession device (MigratepvDoes volume from to) old bytes new bytes answer

@@ -6,8 +6,8 @@ ghost use Rattle.lvm_session.specs.Sound.{IsSound};
 ghost use Rattle.lvm_session.specs.State.{state_of};
 ghost use Rattle.lvm_range_lines.specs.Leaving.{EndsInPlace, EndsInSession};
 ghost use Rattle.lvm_range_lines.specs.passed.GroupLines.{IsBetweenStage, IsFittingStage};
-ghost use Rattle.lvm_move_lines.specs.Asking.{IsAsked};
-ghost use Rattle.lvm_move_lines.specs.Moving.{EmptyAnswers, MigratepvDoes, empty_reply, move_refusal, move_reply};
+ghost use Rattle.lvm_migrate.specs.Migrating.{MayMigrate};
+ghost use Rattle.lvm_move_lines.specs.Moving.{EmptyAnswers, MigratepvDoes, MovesInSession, empty_reply, move_refusal, move_reply};
 
 use crate::asking::asked_for;
 use lvm_core::CommandDriver;
@@ -50,11 +50,10 @@ fn move_reply<S: Shelf>(driver: &Driver<S>, moved: Result<u32, MoveFault>) -> Re
     }
 }
 
-// Moves the copies of a volume, or of all, in a session that is on.
+// Moves the copies of a volume, or of all, in a session that is on, however they were asked for.
 fn move_asked<S: Shelf>(
     alloc: Global,
     driver: &mut Driver<S>,
-    volume: Option<Name>,
     lv: Option<u16>,
     from: u16,
     to: u16,
@@ -62,9 +61,8 @@ fn move_asked<S: Shelf>(
     requires on { driver.old.1.power ≡ power.On }
     requires shut { driver.old.1.copy ≡ None }
     requires epoch { driver.old.1.status.stamp.epoch ≢ 0 }
-    requires differ { from ≢ to }
-    requires asked { IsAsked driver.old.1.descriptor volume from to lv }
-    ensures { (bytes : Vec ℕ) → EndsInSession S.device (MigratepvDoes volume from to) driver.old bytes driver.new bytes result }
+    requires may { MayMigrate driver.old.1.descriptor lv from to }
+    ensures { MovesInSession S.device lv from to driver.old driver.new result }
 {
     let moved = migrate(driver, alloc, lv, from, to, &mut Patience::whole());
     move_reply(driver, moved)
@@ -86,7 +84,7 @@ fn move_on<S: Shelf>(
 {
     match asked_for(driver.descriptor(), volume, from, to) {
         Err(why) => Reply::Refused(why),
-        Ok(lv) => move_asked(alloc, driver, volume, lv, from, to),
+        Ok(lv) => move_asked(alloc, driver, lv, from, to),
     }
 }
 

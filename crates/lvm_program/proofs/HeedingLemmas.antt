@@ -1,5 +1,5 @@
 -- Runs over a shelf that heeds orders alone.
-use Rattle.std.proofs.Common.{◌≡◌, ◌⊎◌, inl, inr, ⊎_elim, ◌≤◌, ℕ, Bool, true, List, [], Option, Some, None, IfSome, Result, Ok, refl, sym, ◌∙◌, ap, subst, arith}
+use Rattle.std.proofs.Common.{◌≡◌, inl, inr, ◌≤◌, ℕ, Bool, true, List, [], Option, Some, None, IfSome, Result, Ok, refl, sym, ◌∙◌, ap, subst, arith}
 use Rattle.lvm_disk.specs.Counts.{Rose, RoseBy}
 use Rattle.lvm_disk.specs.Device.{Device, Ordered, Orders}
 use Rattle.lvm_disk.specs.Paths.{DeviceStep, Path, Here, Then}

@@ -1,10 +1,8 @@
 -- What stands on the disks of the written-out session.
-use Rattle.std.proofs.Common.{◌≡◌, inl, inr, ℕ, ◌<◌, ◌+◌, Bool, true, false, ◌&&◌, ◌==◌, if◌then◌else◌, take, Option, Some, None, refl, sym, ap, subst, ◌∙◌, arith}
-use Rattle.std.specs.Prelude.{IsTrue}
+use Rattle.std.proofs.Common.{◌≡◌, ℕ, Bool, true, false, ◌&&◌, ◌==◌, if◌then◌else◌, take, Option, Some, None, refl, sym, ap, subst, ◌∙◌, arith}
 use Rattle.std.proofs.lemmas.Bool.{ne_eqb}
 use Rattle.lvm_num.specs.declared.place.Pp.{Pp}
 use Rattle.lvm_num.specs.declared.descriptor.Mode.{Mode}
-use Rattle.lvm_num.specs.declared.descriptor.Descriptor.{Descriptor}
 use Rattle.lvm_num.specs.declared.record.Framed.{Framed}
 use Rattle.lvm_num.specs.declared.record.Kind.TheVariants as kind
 use Rattle.lvm_num.specs.Buffer.{IsSector, Sector, zero_sector}
@@ -16,7 +14,7 @@ use Rattle.lvm_num.specs.Record.{Stamped, frame, newer, record_in, slot_start}
 use Rattle.lvm_num.specs.Torn.{slot_at}
 use Rattle.lvm_num.proofs.Booleans.{not_either}
 use Rattle.lvm_num.proofs.TornLemmas.Fresh.{before_is_older}
-use Rattle.lvm_rec.specs.Slots.{held, newest_on, read_under, slot_for, slot_of, slot_to_write}
+use Rattle.lvm_rec.specs.Slots.{held, newest_on, read_under, slot_of, slot_to_write}
 use Rattle.lvm_rec.specs.Homes.{next_slot}
 use Rattle.std.specs.Prelude.{option_and_then}
 use Rattle.lvm_kept.specs.Contents.{contents_of, descriptor_on}
@@ -27,8 +25,7 @@ use Rattle.lvm_kept.proofs.TornLemmas.Standing.{zeros-sector}
 use Rattle.lvm_even.specs.Members.{members_showing}
 use Rattle.lvm_even.proofs.ExamplesLemmas.Slots.{never_before, no-magic, none_or}
 use Rattle.lvm_even.proofs.Lists.{left_of}
-use Rattle.lvm_session.specs.State.{is_there}
-use Rattle.lvm_crash.specs.Session.{AreVotesOf, Describes, HasVolumes, marks_shown}
+use Rattle.lvm_crash.specs.Session.{Describes, HasVolumes, marks_shown}
 use Rattle.lvm_crash.specs.Worked.{Shown, framed_group, framed_status, media_of}
 use Rattle.lvm_crash.proofs.WorkedLemmas.Shelf.{descriptors, image, second_zero, statuses_on}
 use Rattle.lvm_crash.proofs.WorkedLemmas.Worked.{groups_have_votes}

@@ -1,6 +1,5 @@
 -- The written-out session is sound, and its move is done.
-use Rattle.std.proofs.Common.{◌≡◌, inl, ⊎_elim, ℕ, zero, suc, ◌<◌, ◌+◌, ◌-◌, ◌*◌, take, ◌^◌, ◌==◌, ◌||◌, ◌∙◌, Bool, true, false, List, [], ◌∷◌, Option, Some, None, if◌then◌else◌, refl, sym, ap, arith}
-use Rattle.std.specs.Prelude.{slice_index_or}
+use Rattle.std.proofs.Common.{◌≡◌, ℕ, zero, suc, ◌<◌, ◌+◌, ◌-◌, ◌*◌, take, ◌^◌, ◌==◌, ◌||◌, ◌∙◌, Bool, true, false, List, [], ◌∷◌, Some, None, if◌then◌else◌, refl, sym, ap, arith}
 use Rattle.std.specs.List.{list_any}
 use Rattle.std.specs.Option.{option_map_or}
 use Rattle.std.proofs.lemmas.List.{drop_all}
@@ -13,12 +12,11 @@ use Rattle.lvm_num.specs.declared.descriptor.Mode.TheVariants.{Active, Passive, 
 use Rattle.lvm_num.specs.declared.place.Pp.{Pp}
 use Rattle.lvm_num.specs.Descriptor.{copies_of}
 use Rattle.lvm_num.specs.Record.{Stamped}
-use Rattle.lvm_num.specs.Status.{calls_missing, calls_stale}
+use Rattle.lvm_num.specs.Status.{calls_stale}
 use Rattle.lvm_num.proofs.Booleans.{not_either, not_so, thrice_holds}
 use Rattle.lvm_kept.specs.Examples.{member, mirror, two}
 use Rattle.lvm_invariant.specs.State.{Marks}
 use Rattle.lvm_crash.proofs.WorkedLemmas.Worked.{its_marks}
-use Rattle.lvm_session.specs.declared.bringing.CopyEnd.TheVariants as ending
 use Rattle.lvm_session.specs.declared.flown.Owner.TheVariants as owner
 use Rattle.lvm_session.specs.Bringing.{copy_ends}
 use Rattle.lvm_session.specs.Causes.{IsCausedAmong, IsTrueToOrigin}
@@ -27,7 +25,7 @@ use Rattle.lvm_session.specs.Judging.{copies_in, is_move_done}
 use Rattle.lvm_session.specs.Left.{updates_left}
 use Rattle.lvm_session.specs.Owners.{AreOwned}
 use Rattle.lvm_session.specs.Sound.{IsCopy, IsFitting, IsGoing, IsSound, IsTold, may_be_fresh, stays_fresh}
-use Rattle.lvm_session.specs.State.{Core, State}
+use Rattle.lvm_session.specs.State.{Core}
 use Rattle.lvm_session.specs.Worked.{first_copy, second_copy}
 use Rattle.lvm_session.proofs.Small.{not_none}
 use Rattle.lvm_session.proofs.SoundLemmas.{sound_while_on}

@@ -1,5 +1,5 @@
 -- The state as which the written-out session is seen, which is good.
-use Rattle.std.proofs.Common.{◌≡◌, ◌⊎◌, inl, inr, ⊎_elim, ℕ, ◌<◌, Bool, true, false, ◌||◌, ◌==◌, not, if◌then◌else◌, [], ◌∷◌, Option, Some, None, refl, sym, ap, subst, ◌∙◌, eqb-true}
+use Rattle.std.proofs.Common.{◌≡◌, ◌⊎◌, inl, inr, ⊎_elim, ℕ, Bool, true, false, ◌||◌, ◌==◌, not, if◌then◌else◌, [], ◌∷◌, Option, Some, None, refl, sym, ap, ◌∙◌, eqb-true}
 use Rattle.std.specs.Prelude.{IsTrue, IsFalse}
 use Rattle.lvm_num.specs.declared.place.Pp.{Pp}
 use Rattle.lvm_num.specs.declared.descriptor.Mode.{Mode}
@@ -14,7 +14,7 @@ use Rattle.lvm_num.proofs.Booleans.{clash_gives, first_holds, not_so, second_hol
 use Rattle.lvm_vol.specs.May.{IsValue, Known, is_off, unknown}
 use Rattle.lvm_kept.specs.Examples.{either_of, two}
 use Rattle.lvm_even.proofs.Lists.{both_of}
-use Rattle.lvm_invariant.specs.State.{Beside, Marks, ModelCopy, ModelState}
+use Rattle.lvm_invariant.specs.State.{Marks, ModelCopy, ModelState}
 use Rattle.lvm_invariant.specs.First.{first_copy, is_either, second_copy, two_disks}
 use Rattle.lvm_invariant.specs.Found.{Votes}
 use Rattle.lvm_invariant.specs.Good.{Good}

@@ -46,7 +46,7 @@ use Rattle.lvm_volume_lines.proofs.Giving.{mklvcopy_facts, rmlvcopy_facts}
 use Rattle.lvm_volume_lines.proofs.SplittingLemmas.Giving.{split_facts}
 use Rattle.lvm_line.proofs.CausesLemmas.Faulting.{known_group, undrained}
 use Rattle.lvm_line.proofs.CausesLemmas.Knowing.{IsOther, Known, by_reply, easy, has_by}
-use Rattle.lvm_line.proofs.CausesLemmas.Requesting.{rd_told, wr_told, post_told, wait_told, step_told, sync_group_told, sync_volume_told}
+use Rattle.lvm_line.proofs.CausesLemmas.Requesting.{rd_told, wr_told, post_told, wait_told, step_told, sync_group_told, sync_volume_told, migratepv_told}
 use Rattle.lvm_line.proofs.CausesLemmas.Sources.{range_line_cause, rd_lacks, wr_lacks}
 
 -- ---- groups

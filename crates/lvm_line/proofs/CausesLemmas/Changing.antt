@@ -1,18 +1,17 @@
 -- Why `chvg` is refused.
-use Rattle.std.proofs.Common.{◌≡◌, ◌⊎◌, inl, inr, ⊎_elim, ◌*◌, ◌≤◌, ℕ, Bool, true, false, Option, Some, Result, Err, refl, sym, ◌∙◌, ap, subst}
+use Rattle.std.proofs.Common.{◌≡◌, ◌⊎◌, inl, inr, ⊎_elim, ◌*◌, ◌≤◌, ℕ, Bool, true, false, Option, Some, Result, Err, sym, ◌∙◌, ap, subst}
 use Rattle.std.specs.Prelude.{MatchBool}
 use Rattle.lvm_num.specs.declared.descriptor.Descriptor.{Descriptor}
-use Rattle.lvm_num.specs.Votes.{total_votes}
 use Rattle.lvm_disk.specs.Counts.{Rose, RoseBy, Counts}
 use Rattle.lvm_disk.specs.Device.{Device}
 use Rattle.lvm_parse.specs.declared.command.Command.{Command}
 use Rattle.lvm_parse.specs.declared.rest.Misfit.{Misfit}
 use Rattle.lvm_core.specs.Committing.{HasGoneDark, IsLeftOut}
 use Rattle.lvm_session.specs.declared.open.Power.TheVariants as power
-use Rattle.lvm_session.specs.State.{Core, State, is_there}
+use Rattle.lvm_session.specs.State.{Core, State}
 use Rattle.lvm_status.specs.Update.{members_there}
 use Rattle.lvm_disk.proofs.CountingLemmas.{rose_before}
-use Rattle.lvm_volume_lines.specs.passed.GroupLines.{Refusal, ScriptState, patience_of_line}
+use Rattle.lvm_volume_lines.specs.passed.GroupLines.{ScriptState, patience_of_line}
 use Rattle.lvm_volume_lines.specs.passed.Members.{BigGives, GoesOff, HasGoneOffBy, IsRefusedFor, NothingGives, RuleFault, RuleGives, as_big, ends_session, with_descriptor}
 use Rattle.lvm_volume_lines.specs.passed.RuleFaultVariants as fault
 use Rattle.lvm_volume_lines.specs.passed.RefusalVariants as refusal

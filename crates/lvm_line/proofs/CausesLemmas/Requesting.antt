@@ -34,7 +34,7 @@ use Rattle.lvm_move_lines.specs.passed.Migrate.{MoveCause, MoveFault}
 use Rattle.lvm_move_lines.specs.passed.MoveFaultVariants as move
 use Rattle.lvm_volume_lines.specs.passed.Tie.{MovesOn}
 use Rattle.lvm_line.specs.Causes.{TurnCause}
-use Rattle.lvm_line.proofs.CausesLemmas.Turns.{WentWithin, by_moves, dark_cause, failed_cause, fails_counts, leaves_counts, moves_on, off_cause, over_counts, stuck_cause, went_dark, went_off, went_stuck, went_waiting}
+use Rattle.lvm_line.proofs.CausesLemmas.Turns.{WentWithin, by_moves, dark_cause, failed_cause, fails_counts, leaves_counts, moves_on, off_cause, over_counts, stuck_cause, went_dark, went_off, went_waiting}
 
 -- what has happened for it; no group is on where nothing was heard of a transfer; and it isn't that votes are lacking for a quorum
 pub record Told (why : Refusal) (old new : ScriptState) : Type 0 where
@@ -207,7 +207,7 @@ module _ (old new : ScriptState) (between : IsBetween old.moment old.session old
       by : (r : Result ℕ MoveFault) → IfErr r (MoveCause patience_of_line (session_over old core) end) → reply.Refused why ≡ move_reply r → Told why old new
       by (Ok moved) caused is = absurd (cc (is))
       by (Err move.Dark) dark is = told_by why refusal.Dark old new is (told_easy refusal.Dark old new (went_dark old new core end between went its.sound counts dark) (λ e. cc) (λ h t e. cc))
-      by (Err (move.WentOff have total)) off is = told_off have total off.0 off.1.0 off.1.1 is
+      by (Err (move.WentOff have total)) off is = told_off have total off.0 off.1 off.2 is
       by (Err move.Stuck) waited is = told_by why refusal.Stuck old new is
           (record { cause = went_waiting old new core end between went its.sound counts waited; off = λ stuck. unheard (ap is_unheard is); counted = λ h t e. cc })
       by (Err (move.SyncFailed disk)) failed is = told_by why _ old new is (told_easy (refusal.SyncFailed disk) old new (record {

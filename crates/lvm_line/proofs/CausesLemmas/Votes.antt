@@ -1,5 +1,5 @@
 -- By what the votes of a group are lost in which copies may have moved.
-use Rattle.std.proofs.Common.{◌≡◌, true, not, [], refl, sym, ◌∙◌, ap}
+use Rattle.std.proofs.Common.{◌≡◌, true, not, refl, sym, ◌∙◌, ap}
 use Rattle.lvm_num.specs.declared.descriptor.Descriptor.{Descriptor}
 use Rattle.lvm_num.specs.Votes.{is_enough_to_write, votes_in}
 use Rattle.lvm_kept.specs.Group.{IsAlike}

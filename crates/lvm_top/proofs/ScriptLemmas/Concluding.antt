@@ -20,14 +20,14 @@ use Rattle.lvm_line.specs.passed.KeepsEvents.{power_by}
 use Rattle.lvm_session.specs.declared.answers.Turned.TheVariants as turned
 use Rattle.lvm_session.specs.declared.open.Power.{Power}
 use Rattle.lvm_line.specs.passed.Quiesce.{IsAheadEach}
-use Rattle.lvm_line.specs.passed.Tie.{LeavesDescriptors, LeavesSession}
+use Rattle.lvm_line.specs.passed.Tie.{LeavesDescriptors, LeavesSession, MovesOn}
 use Rattle.lvm_line.specs.Lines.{role_of}
-use Rattle.lvm_line.specs.passed.GroupLines.{LineGoesOn, IsAlone, OfRequests, IsClosed, ArePosted, ScriptState, IsAtRest, IsBetween, IsTimely, StandsBy, Reply}
+use Rattle.lvm_line.specs.passed.GroupLines.{LineGoesOn, IsAlone, OfRequests, IsClosed, ArePosted, ScriptState, IsAtRest, IsBetween, IsOnBetween, IsTimely, StandsBy, Reply}
 use Rattle.lvm_line.specs.passed.RefusalVariants as refusal
 use Rattle.lvm_line.specs.passed.ReplyVariants as reply
 use Rattle.lvm_line.proofs.passed.GroupLines.{closed_ahead, over_goes}
 use Rattle.lvm_line.proofs.passed.Quiesce.{each_is_behind}
-use Rattle.lvm_line.proofs.passed.Tie.{goes_any}
+use Rattle.lvm_line.proofs.passed.Tie.{goes_any, leaves_move_on}
 use Rattle.lvm_top.specs.declared.status.ExitStatus.{ExitStatus}
 use Rattle.lvm_top.specs.declared.status.ExitStatus.TheVariants as ended
 use Rattle.lvm_top.specs.Ending.{Concludes, NoneIsOn, NoneIsServed, IsServed, NothingIsLeft, TurnsAreMade, HasNothingLeftOrOut}
@@ -83,13 +83,16 @@ module _ (end : ScriptState) (exit : Moment) (between : IsBetween end.moment end
 
   -- it has gone on, and is closed
   module _ (last : State) (heard : last.core.power ≡ power.Stuck → ⊥) (leaves : LeavesSession (state end.moment.device core) last) (sound : IsSound last) (closed : IsClosed last.core.power last.device exit.device) (entries : exit.facts ≡ last.core.history.facts) where
+    gone_on : MovesOn (state end.moment.device core) last
+    gone_on = leaves_move_on (state end.moment.device core) last (subst (λ (o : Option Core). IfSome o (IsOnBetween end.moment.device)) some between.session).sound leaves
+
     closed_goes : LineGoesOn core.history.run OfRequests (reply.Refused refusal.Stuck) end behind
     closed_goes =
-        over_goes OfRequests end core last (record { alone = λ new alone. alone.acts tt; session = some; facts = facts; volumes = vols; between = between; leaves = leaves; sound = sound }) (reply.Refused refusal.Stuck) behind closed entries refl refl heard (λ heard. absurd (heard refl)) (none_posted _ _)
+        over_goes OfRequests end core last (record { alone = λ new alone. alone.acts tt; session = some; facts = facts; volumes = vols; between = between; went = gone_on; sound = sound }) (reply.Refused refusal.Stuck) behind closed entries refl refl heard (λ heard. absurd (heard refl)) (none_posted _ _)
         (λ not_asking. absurd (not_asking tt)) (omega arith)
 
     closed_each : IsTimely core.history.run end → IsAheadEach core.history.run (end.last + 1) exit.device exit.facts
-    closed_each = closed_ahead OfRequests end core last (record { alone = λ new alone. alone.acts tt; session = some; facts = facts; volumes = vols; between = between; leaves = leaves; sound = sound }) behind closed entries refl heard
+    closed_each = closed_ahead OfRequests end core last (record { alone = λ new alone. alone.acts tt; session = some; facts = facts; volumes = vols; between = between; went = gone_on; sound = sound }) behind closed entries refl heard
 
 -- what is ahead of each crash image is ahead of the disks
 pub each_is_ahead : (run moment : ℕ) (device : Device) (facts : List Fact) → IsAheadEach run moment device facts → IsAhead run moment device facts

@@ -2,13 +2,12 @@ use Rattle.std.proofs.Common.{None, Some, Ok, refl, sym, subst}
 use Rattle.lvm_disk.specs.declared.shelf.Arrange.TheVariants as arrange
 use Rattle.lvm_parse.specs.declared.command.Command.{Command}
 use Rattle.lvm_parse.specs.declared.command.Command.TheVariants as command
-use Rattle.lvm_parse.specs.Within.{IsWithinLimits}
 use Rattle.lvm_volume_lines.specs.passed.GroupLines.{ArrangeDoes, CommandEnds, session_in}
 use Rattle.lvm_line.specs.Lines.{CommandDoes, IsOrder, role_of}
 use Rattle.lvm_line.proofs.LinesLemmas.Answering.{left_over}
 use Rattle.lvm_line.proofs.LinesLemmas.Lining.{heard_disk, heard_group, heard_volume, one_disk, one_group, one_volume, order_left}
 use Rattle.lvm_line.proofs.LinesLemmas.Staying.{lists_in_place, placed_as}
-use Rattle.lvm_line.proofs.line.serve.Goals.{in-Lsvg, in-Lslv, in-Lspv, in-Rd, in-Wr, in-Post, in-Step, in-Migratepv, in-SyncVolume, in-SyncGroup, in-Fail, in-Heal, in_default}
+use Rattle.lvm_line.proofs.line.serve.Goals.{in-Lsvg, in-Lslv, in-Lspv, in-Rd, in-Wr, in-Post, in-Step, in-SyncVolume, in-SyncGroup, in-Fail, in-Heal, in_default}
 use Rattle.lvm_line.proofs.line.serve.Goals as goal
 
 pub returns : goal.returns
@@ -37,8 +36,6 @@ returns g c =
           (λ left its room last. subst (λ (d : Command). CommandEnds device (λ log. CommandDoes log room d) (IsOrder (Ok (Some d))) (role_of (Ok (Some d))) old left w.do_post.result last last) (sym w.in-Post.is) (w.do_post.ensures left its last))
       | in-Step w ↦ placed_as device it old kept w.do_step.new.stage answer (Some w.do_step.result) w.stage-is w.result-is
           (λ left its room last. subst (λ (d : Command). CommandEnds device (λ log. CommandDoes log room d) (IsOrder (Ok (Some d))) (role_of (Ok (Some d))) old left w.do_step.result last last) (sym w.in-Step.is) (w.do_step.ensures left its last))
-      | in-Migratepv w ↦ placed_as device it old kept w.do_migratepv.new.stage answer (Some w.do_migratepv.result) w.stage-is w.result-is
-          (λ left its room last. subst (λ (d : Command). CommandEnds device (λ log. CommandDoes log room d) (IsOrder (Ok (Some d))) (role_of (Ok (Some d))) old left w.do_migratepv.result last last) (sym w.in-Migratepv.is) (w.do_migratepv.ensures left its last))
       | in-SyncVolume w ↦ placed_as device it old kept w.do_sync_volume.new.stage answer (Some w.do_sync_volume.result) w.stage-is w.result-is
           (λ left its room last. subst (λ (d : Command). CommandEnds device (λ log. CommandDoes log room d) (IsOrder (Ok (Some d))) (role_of (Ok (Some d))) old left w.do_sync_volume.result last last) (sym w.in-SyncVolume.is) (w.do_sync_volume.ensures left its last))
       | in-SyncGroup w ↦ placed_as device it old kept w.do_sync_group.new.stage answer (Some w.do_sync_group.result) w.stage-is w.result-is
@@ -50,8 +47,5 @@ returns g c =
           (λ left its room last. subst (λ (d : Command). CommandEnds device (λ log. CommandDoes log room d) (IsOrder (Ok (Some d))) (role_of (Ok (Some d))) old left w.do_arrange-in-Heal.result last last) (sym w.in-Heal.is)
           (order_left device (λ log. ArrangeDoes w.in-Heal.disk (arrange.Heal w.in-Heal.disk)) old w.do_arrange-in-Heal.new.stage w.do_arrange-in-Heal.result w.do_arrange-in-Heal.ensures.ends w.do_arrange-in-Heal.ensures.heard left its last))
       | in_default w ↦ placed_as device it old kept old answer None w.stage-is w.result-is
-          (refl, left_over it w.in_default.not-Lsvg w.in_default.not-Lslv w.in_default.not-Lspv w.in_default.not-Rd w.in_default.not-Wr w.in_default.not-Post w.in_default.not-Step w.in_default.not-Migratepv w.in_default.not-SyncVolume w.in_default.not-SyncGroup w.in_default.not-Fail w.in_default.not-Heal)
+          (refl, left_over it w.in_default.not-Lsvg w.in_default.not-Lslv w.in_default.not-Lspv w.in_default.not-Rd w.in_default.not-Wr w.in_default.not-Post w.in_default.not-Step w.in_default.not-SyncVolume w.in_default.not-SyncGroup w.in_default.not-Fail w.in_default.not-Heal)
     ]
-
-pub do_migratepv-requires-clause-differ : goal.do_migratepv-requires-clause-differ
-do_migratepv-requires-clause-differ g c = subst IsWithinLimits c.in-Migratepv.is c.requires.within

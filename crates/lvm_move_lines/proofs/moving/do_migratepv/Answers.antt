@@ -1,4 +1,4 @@
-use Rattle.std.proofs.Common.{◌≤◌, false, refl, sym, ◌∙◌, ap, subst}
+use Rattle.std.proofs.Common.{false, refl, ap, subst}
 use Rattle.lvm_range_lines.specs.passed.HolderVariants as holder
 use Rattle.lvm_range_lines.specs.passed.RefusalVariants as refusal
 use Rattle.lvm_range_lines.specs.passed.ReplyVariants as reply

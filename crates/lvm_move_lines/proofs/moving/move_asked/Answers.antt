@@ -6,19 +6,18 @@ use Rattle.lvm_migrate.specs.Migrating.{GoesBesideMoving, MigrateGives, MoveCaus
 use Rattle.lvm_range_lines.specs.passed.GroupLines.{Reply, is_unheard, most_refusals}
 use Rattle.lvm_range_lines.proofs.LeavingLemmas.Posting.{table_posts}
 use Rattle.lvm_move_lines.specs.Moving.{MigratepvDoes, MovesCopies}
-use Rattle.lvm_move_lines.proofs.AskingLemmas.{may_migrate}
 use Rattle.lvm_move_lines.proofs.MovingLemmas.{fails_if, move_few, moved_ends, on_of}
 use Rattle.lvm_move_lines.proofs.moving.move_asked.Goals as goal
 
 pub migrate-moved-requires : goal.migrate-moved-requires
 migrate-moved-requires g c = record {
-  may = may_migrate c.args.driver.now.1.descriptor c.args.volume c.args.from c.args.to c.args.lv c.requires.differ c.requires.asked;
+  may = c.requires.may;
   unstuck = λ stuck. let e : power.On ≡ power.Stuck = sym c.requires.on ∙ stuck in cc e;
   epoch = c.requires.epoch;
 }
 
 pub returns : goal.returns
-returns g c = λ bytes posts fits between stage its.
+returns g c = λ volume asked bytes posts fits between stage its.
     let device = g.S.Shelf.device in
     let first = c.args.driver.now in
     let end = c.migrate-moved.new.driver in
@@ -31,8 +30,8 @@ returns g c = λ bytes posts fits between stage its.
     let says = c.move_reply.ensures.reply in
     let beside = subst (λ (n : ℕ). GoesBesideMoving (state_of device first) (state_of device end) n left) c.whole.ensures c.migrate-moved.ensures.beside in
     let few : most_refusals answer ≤ 1 = subst (λ (a : Reply). most_refusals a ≤ 1) (sym says) (move_few result) in
-    moved_ends device first posts bytes fits between end left beside c.move_reply.ensures.sound (λ log. MigratepvDoes c.args.volume c.args.from c.args.to) stage answer few (its.rooms first.1.history.room fits.rooms)
-    (λ last. MovesCopies first.1 c.args.lv refl c.requires.asked fits.kind (record {
+    moved_ends device first posts bytes fits between end left beside c.move_reply.ensures.sound (λ log. MigratepvDoes volume c.args.from c.args.to) stage answer few (its.rooms first.1.history.room fits.rooms)
+    (λ last. MovesCopies first.1 c.args.lv refl asked fits.kind (record {
       end = state_of device end;
       left = left;
       result = result;

@@ -1,4 +1,4 @@
-use Rattle.std.proofs.Common.{◌∙◌, Option, IfSome, refl, sym, subst}
+use Rattle.std.proofs.Common.{◌∙◌, IfSome, sym, subst}
 use Rattle.lvm_load.specs.Loading.{NoneHasBegun}
 use Rattle.lvm_session.specs.State.{Core}
 use Rattle.lvm_top.specs.passed.HolderVariants as holder

@@ -1,6 +1,6 @@
-use Rattle.std.proofs.Common.{◌∙◌, List, ap, refl, subst, ℕ}
+use Rattle.std.proofs.Common.{◌∙◌, List, ap, subst, ℕ}
 use Rattle.lvm_top.specs.passed.HolderVariants as holder
-use Rattle.lvm_top.specs.passed.GroupLines.{history_in, state_in, without_facts}
+use Rattle.lvm_top.specs.passed.GroupLines.{state_in, without_facts}
 use Rattle.lvm_top.specs.passed.Lines.{IsLine}
 use Rattle.lvm_top.proofs.RunLemmas.Stopping.{first_between, first_state}
 use Rattle.lvm_program.proofs.LoadedLemmas.Loaded.{line_few, line_so, the_promises_loaded, unloaded}
