@@ -1,33 +1,29 @@
 -- Once the first copy has moved the others are planned as they were.
-use Rattle.std.proofs.Common.{◌≡◌, ◌≢◌, ◌⊎◌, inl, inr, ℕ, zero, suc, ◌+◌, ◌-◌, ◌*◌, ◌<◌, ◌≤◌, Bool, true, false, ◌&&◌, ◌||◌, not, List, [], ◌∷◌, ◌++◌, length, get_or, set, take, drop, map, slice_get, Option, Some, None, refl, sym, ap, subst, ◌∙◌, arith}
-use Rattle.std.specs.Prelude.{◌==◌, All, AllPairs, find, nat_lt, if◌then◌else◌, option_map}
-use Rattle.std.specs.List.{list_any}
+use Rattle.std.proofs.Common.{◌≡◌, ◌≢◌, ◌⊎◌, inl, inr, ℕ, suc, ◌+◌, ◌-◌, ◌<◌, ◌≤◌, Bool, true, false, ◌&&◌, ◌||◌, List, [], ◌∷◌, length, slice_get, Option, Some, None, refl, sym, ap, subst, ◌∙◌, arith}
+use Rattle.std.specs.Prelude.{◌==◌, AllPairs, find, nat_lt, if◌then◌else◌, option_map}
 use Rattle.std.specs.Option.{option_map_or}
-use Rattle.std.proofs.lemmas.Bool.{cases_Bool, cases_eq, cases_lt, eq-eqb, eqb-true, false≢true, lt-ltb, ne_eqb, or_parts}
+use Rattle.std.proofs.lemmas.Bool.{cases_eq, cases_lt, eq-eqb, eqb-true, false≢true, lt-ltb, ne_eqb, or_parts}
 use Rattle.std.proofs.lemmas.Option.{get_or_from_slice_get, slice_get_within}
-use Rattle.std.proofs.lemmas.List.{length-take}
 use Rattle.lvm_num.specs.Among.{IsOneOf}
 use Rattle.lvm_num.specs.declared.place.Pp.{Pp}
 use Rattle.lvm_num.specs.declared.descriptor.LvRow.{LvRow}
 use Rattle.lvm_num.specs.declared.descriptor.Descriptor.{Descriptor}
-use Rattle.lvm_num.specs.Descriptor.{IsLaidOut, IsValid, copies_of, is_pp, partitions_in, partitions_used, volume_of}
+use Rattle.lvm_num.specs.Descriptor.{IsLaidOut, IsValid, copies_of, is_pp, partitions_used, volume_of}
 use Rattle.lvm_num.proofs.AmongLemmas.{all_one, one_any, one_at}
 use Rattle.lvm_num.proofs.Booleans.{clash}
 use Rattle.lvm_num.proofs.DescriptorLemmas.Partitions.{one_partition, same_partition}
 use Rattle.lvm_num.proofs.MarksLemmas.Maps.{find-None}
 use Rattle.lvm_map.specs.FirstFit.{has_partition_on, is_among}
-use Rattle.lvm_moved.specs.Moved.{MayStandOn, moved_descriptor, moved_row, place_in_map, with_copy_on}
-use Rattle.lvm_moved.proofs.MovedLemmas.{moved_is_valid, place_inside}
+use Rattle.lvm_moved.specs.Moved.{MayStandOn, moved_descriptor, moved_row, place_in_map}
 use Rattle.lvm_move_plan.specs.declared.standing.VolumeCopy.{VolumeCopy}
 use Rattle.lvm_move_plan.specs.Planned.{first_strict, free_on, stands_beside}
 use Rattle.lvm_move_plan.specs.Standing.{ComesBefore, StandsOn, only, standing_on}
 use Rattle.lvm_move_plan.specs.Laws.{IsFreeOn}
 use Rattle.lvm_move_plan.proofs.FreeLemmas.{LiesBelow, free_is_on, is_partition, none_has, on_is_free, on_rises}
 use Rattle.lvm_move_plan.proofs.LeavingLemmas.{copies_left as left_copies_left, copy_few as left_copy_few, inside_map as left_inside_map, laid as left_laid, next_valid as left_next_valid, others_stay as left_others_stay, rises as left_rises, same_lps as left_same_lps, same_row as left_same_row, some as left_some, stands as left_stands, volume_next as left_volume_next}
-use Rattle.lvm_move_plan.proofs.ListedLemmas.{not_before_itself, not_both_before, rows_rise, standing_listed, standing_rises}
-use Rattle.lvm_move_plan.proofs.MoveLemmas.{find_moved, moved_copy, other_copy, row_as, row_with, used_moved}
-use Rattle.lvm_move_plan.proofs.PlanLemmas.{laid_out}
-use Rattle.lvm_move_plan.proofs.RisingLemmas.{Rises, one_found, one_rising}
+use Rattle.lvm_move_plan.proofs.ListedLemmas.{not_before_itself, rows_rise, standing_listed}
+use Rattle.lvm_move_plan.proofs.MoveLemmas.{used_moved}
+use Rattle.lvm_move_plan.proofs.RisingLemmas.{Rises, one_rising}
 
 -- ---- none of these stands on the disk
 

@@ -1,6 +1,6 @@
 -- The laws of moves that are planned.
-use Rattle.std.proofs.Common.{◌≡◌, ◌≢◌, ◌⊎◌, inl, inr, ℕ, zero, suc, ◌+◌, ◌<◌, ◌≤◌, Bool, true, false, List, [], ◌∷◌, length, map, zip, Option, Some, None, refl, sym, ap, subst, ◌∙◌, arith}
-use Rattle.std.specs.Prelude.{All, AllPairs, find, nat_lt, if◌then◌else◌, option_map}
+use Rattle.std.proofs.Common.{◌≡◌, ◌≢◌, inl, inr, ℕ, suc, ◌<◌, ◌≤◌, Bool, true, false, List, [], ◌∷◌, length, map, Option, Some, None, refl, sym, ap, subst, ◌∙◌, arith}
+use Rattle.std.specs.Prelude.{All, nat_lt, if◌then◌else◌}
 use Rattle.std.specs.Option.{option_map_or}
 use Rattle.std.proofs.lemmas.Bool.{le-ltb, ltb-false}
 use Rattle.std.proofs.lemmas.List.Elements.{All-cons, All-nil}
@@ -10,13 +10,12 @@ use Rattle.lvm_num.specs.declared.descriptor.Descriptor.{Descriptor}
 use Rattle.lvm_num.specs.Descriptor.{IsValid}
 use Rattle.lvm_move_plan.specs.declared.standing.VolumeCopy.{VolumeCopy}
 use Rattle.lvm_move_plan.specs.declared.plan.PlannedMove.{PlannedMove}
-use Rattle.lvm_move_plan.specs.declared.plan.PlanFault.{PlanFault}
 use Rattle.lvm_move_plan.specs.declared.plan.PlanFault.TheVariants as fault
-use Rattle.lvm_move_plan.specs.Laws.{EachMoves, IsFreeOn, IsLowest, NoneIsLeft, PlacesAreLowest, PlanGoesOn, PlansEmptyDisks, PlansGoOn, after_move, after_moves}
-use Rattle.lvm_move_plan.specs.Planned.{first_strict, free_on, moves_to, plan_refusal, planned_moves, room_fault, stands_beside}
+use Rattle.lvm_move_plan.specs.Laws.{EachMoves, IsLowest, NoneIsLeft, PlacesAreLowest, PlanGoesOn, PlansEmptyDisks, PlansGoOn, after_move, after_moves}
+use Rattle.lvm_move_plan.specs.Planned.{first_strict, free_on, moves_to, plan_refusal, planned_moves, room_fault}
 use Rattle.lvm_move_plan.specs.Standing.{standing_on}
 use Rattle.lvm_move_plan.proofs.FreeLemmas.{LiesBelow, free_is_on, on_is_free, on_rises}
-use Rattle.lvm_move_plan.proofs.GoesOnLemmas.{copies_left, free_left, may, next_valid, still_strict}
+use Rattle.lvm_move_plan.proofs.GoesOnLemmas.{copies_left, free_left, may, still_strict}
 use Rattle.lvm_move_plan.proofs.RisingLemmas.{Rises, rises_pairs}
 use Rattle.lvm_moved.proofs.MovedLemmas.{moved_is_valid}
 

@@ -1,29 +1,18 @@
 -- The first of the moves may be made, and the others are planned then.
-use Rattle.std.proofs.Common.{◌≡◌, ◌≢◌, ◌⊎◌, inl, inr, ℕ, zero, suc, ◌+◌, ◌-◌, ◌*◌, ◌<◌, ◌≤◌, Bool, true, false, ◌&&◌, ◌||◌, not, List, [], ◌∷◌, ◌++◌, length, get_or, set, take, drop, map, flat_map, slice_get, Option, Some, None, refl, sym, ap, subst, ◌∙◌, arith}
-use Rattle.std.specs.Prelude.{◌==◌, All, AllPairs, filter, find, nat_lt, if◌then◌else◌, option_map}
-use Rattle.std.specs.List.{list_any, range_with_len}
-use Rattle.std.specs.Option.{option_map_or}
-use Rattle.std.proofs.lemmas.Bool.{and_from, cases_Bool, cases_eq, cases_lt, eq-eqb, eqb-true, false≢true, or_parts}
-use Rattle.std.proofs.lemmas.Option.{slice_get-get_or, slice_get_within, get_or_from_slice_get}
+use Rattle.std.proofs.Common.{◌≡◌, ◌≢◌, ◌⊎◌, inl, inr, ℕ, zero, suc, ◌+◌, ◌-◌, ◌*◌, ◌<◌, ◌≤◌, Bool, true, false, ◌||◌, List, [], ◌∷◌, ◌++◌, length, get_or, set, take, drop, map, slice_get, Some, None, refl, sym, ap, subst, ◌∙◌, arith}
+use Rattle.std.specs.Prelude.{◌==◌, find, if◌then◌else◌, option_map}
+use Rattle.std.specs.List.{list_any}
+use Rattle.std.proofs.lemmas.Bool.{cases_Bool, cases_eq, cases_lt, eq-eqb, eqb-true, false≢true}
+use Rattle.std.proofs.lemmas.Option.{slice_get-get_or, get_or_from_slice_get}
 use Rattle.std.proofs.lemmas.List.{get_or-take, get_or-drop, get_or-set_same, get_or-set_other, length-drop, length-set, length-take}
 use Rattle.std.proofs.lemmas.List.Folds.{list_any-append}
 use Rattle.std.proofs.Math.Nat.{mul-le-mul_right}
 use Rattle.lvm_num.specs.Among.{IsOneOf}
 use Rattle.lvm_num.specs.declared.place.Pp.{Pp}
-use Rattle.lvm_num.specs.declared.descriptor.PvRow.{PvRow}
 use Rattle.lvm_num.specs.declared.descriptor.LvRow.{LvRow}
-use Rattle.lvm_num.specs.declared.descriptor.Descriptor.{Descriptor}
-use Rattle.lvm_num.specs.Descriptor.{IsLaidOut, IsPartitionOf, IsValid, copies_of, is_pp, member_of, partitions_in, partitions_used, volume_of}
-use Rattle.lvm_num.proofs.AmongLemmas.{filter_one, of_range, one_any, one_at}
-use Rattle.lvm_num.proofs.DescriptorLemmas.Partitions.{one_partition, same_partition}
-use Rattle.lvm_map.specs.FirstFit.{free_of, has_partition_on, is_among, partitions_of}
-use Rattle.lvm_moved.specs.Moved.{MayStandOn, moved_descriptor, moved_row, place_in_map, with_copy_on}
-use Rattle.lvm_moved.proofs.MovedLemmas.{moved_is_valid, place_inside}
-use Rattle.lvm_move_plan.specs.declared.standing.VolumeCopy.{VolumeCopy}
-use Rattle.lvm_move_plan.specs.Standing.{ComesBefore, StandsOn, is_asked_for, standing_on}
-use Rattle.lvm_move_plan.proofs.ListedLemmas.{not_before_itself, not_both_before, standing_listed, standing_rises}
-use Rattle.lvm_move_plan.proofs.PlanLemmas.{laid_out}
-use Rattle.lvm_move_plan.proofs.RisingLemmas.{Rises, filter_rises, one_found, one_rising}
+use Rattle.lvm_num.specs.Descriptor.{copies_of, partitions_in}
+use Rattle.lvm_moved.specs.Moved.{moved_row, place_in_map, with_copy_on}
+use Rattle.lvm_move_plan.proofs.RisingLemmas.{Rises}
 
 -- ---- the volume in which the copy has moved
 

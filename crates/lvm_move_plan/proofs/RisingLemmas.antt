@@ -1,6 +1,6 @@
 -- Lists whose elements rise by an order: what is one of them, and that there is one such list of the same elements.
-use Rattle.std.proofs.Common.{◌≡◌, ◌⊎◌, inl, inr, ⊎_elim, ℕ, zero, suc, ◌+◌, ◌<◌, ◌≤◌, Bool, true, false, ◌||◌, List, [], ◌∷◌, ◌++◌, length, get_or, flat_map, Some, None, refl, sym, ap, subst, ◌∙◌, arith}
-use Rattle.std.specs.Prelude.{All, AllPairs, filter, find, if◌then◌else◌, not}
+use Rattle.std.proofs.Common.{◌≡◌, ◌⊎◌, inl, inr, ⊎_elim, ℕ, zero, suc, ◌+◌, ◌<◌, ◌≤◌, Bool, true, false, List, [], ◌∷◌, ◌++◌, length, get_or, flat_map, Some, refl, sym, ap, subst, ◌∙◌, arith}
+use Rattle.std.specs.Prelude.{AllPairs, filter, find, if◌then◌else◌}
 use Rattle.std.specs.List.{range_with_len}
 use Rattle.lvm_num.specs.Among.{IsOneOf}
 use Rattle.lvm_num.proofs.AmongLemmas.{filter_one, one_of_left, one_of_right, one_of_either}

@@ -1,6 +1,5 @@
 -- The moves by which copies leave a disk for another one, and what stands against them.
-use Rattle.std.specs.Prelude.{◌≡◌, ℕ, ◌<◌, Bool, ◌&&◌, false, ◌==◌, nat_lt, not, if◌then◌else◌, List, [], length, map, zip, find, Option, Some, None}
-use Rattle.std.specs.List.{list_any}
+use Rattle.std.specs.Prelude.{◌≡◌, ℕ, Bool, ◌&&◌, false, nat_lt, not, if◌then◌else◌, List, [], length, map, zip, find, Option, Some, None}
 use Rattle.std.specs.Option.{option_map, option_map_or}
 use Rattle.lvm_num.specs.declared.place.Pp.{Pp}
 use Rattle.lvm_num.specs.declared.descriptor.PvRow.{PvRow}
